@@ -1,0 +1,5 @@
+pub mod Bits
+pub mod Packs
+pub mod Lists
+pub mod Rows
+pub mod Cuts
