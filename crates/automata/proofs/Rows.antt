@@ -8,7 +8,7 @@ use lib.ListN.{length, getD, drop}
 use Rattle.automata.specs.Nfa.{Nfa}
 use Rattle.automata.specs.Sets.{has}
 use Rattle.automata.specs.Records.{head-record, start-record, end-record, arrow-record}
-use Rattle.automata.specs.Files.{when, each, records}
+use Rattle.automata.specs.Files.{when, each, arrows, records}
 use Rattle.automata.proofs.Lists.{Mem, mem-left, mem-right, mem-cases, mem-when, when-mem, mem-each, each-mem, Before, Asc, asc-append, asc-when, asc-each}
 
 -- what the records of a plan are
@@ -77,7 +77,7 @@ module _ (A : Nfa) where
       (r .0, w .0, w .1, r .1, w .2, w .3, w .4, w .5)
 
   pub mem-row : (z : List ℕ) → Mem z (records A) → Row A z
-  unfolding records
+  unfolding records arrows
   mem-row z (inl e) = head e
   mem-row z (inr m) =
       ⊎-elim
@@ -89,7 +89,7 @@ module _ (A : Nfa) where
       (mem-cases z starts-part (ends-part ++ arrows-part) m)
 
   pub row-mem : (z : List ℕ) → Row A z → Mem z (records A)
-  unfolding records
+  unfolding records arrows
   row-mem z (head e) = inl e
   row-mem z (start s l h e) =
       inr (mem-left z starts-part (ends-part ++ arrows-part)
@@ -154,7 +154,7 @@ module _ (A : Nfa) where
       (mem-cases y ends-part arrows-part n))
 
   pub asc-records : Asc (records A)
-  unfolding records
+  unfolding records arrows
   asc-records = (
     λ y m.
         ⊎-elim
