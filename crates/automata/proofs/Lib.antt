@@ -3,3 +3,8 @@ pub mod Packs
 pub mod Lists
 pub mod Rows
 pub mod Cuts
+pub mod Causes
+pub mod Exact
+pub mod InTurn
+pub mod Scans
+pub mod Pieces

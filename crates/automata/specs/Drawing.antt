@@ -1,7 +1,9 @@
--- What drawing makes of a plan, one step at a time.
+-- What drawing makes of a plan, one step at a time, and what speaks against a step.
 use Prim.Native.Nat.{ℕ, _+_}
 use mathlib.Core.Bool.{Bool, cond, _&&_}
-use lib.Dec.{eqb}
+use mathlib.Core.Option.{Option, none, some}
+use mathlib.Core.List.{List, []}
+use lib.Dec.{eqb, leb}
 use Rattle.automata.specs.Sets.{along, without}
 use Rattle.automata.specs.Nfa.{Nfa}
 
@@ -37,3 +39,33 @@ with-arrow s c t A = retargeted s c (λ x. along x t) A
 -- no arrow from s under c to t
 abbrev pub without-arrow : ℕ → ℕ → ℕ → Nfa → Nfa
 without-arrow s c t A = retargeted s c (λ x. without x t) A
+
+-- a refusal as it is reported: its number and the values that it brings
+pub record Report : Type 0 where
+  pub number : ℕ
+  pub values : List ℕ
+
+-- the refusal with number n where b holds
+abbrev pub refuse : Bool → ℕ → Option Report
+refuse b n = cond b (some (record { number = n; values = [] })) none
+
+-- the first of two refusals
+abbrev pub or-else : Option Report → Option Report → Option Report
+or-else none y = y
+or-else (some x) y = some x
+
+-- 2: no room for a state
+abbrev pub no-room : Nfa → Option Report
+no-room A = refuse (leb 32 (A .count)) 2
+
+-- 3: no such state
+abbrev pub no-state : Nfa → ℕ → Option Report
+no-state A s = refuse (leb (A .count) s) 3
+
+-- 4: no such command
+abbrev pub no-command : ℕ → Option Report
+no-command c = refuse (leb 26 c) 4
+
+-- an arrow is named by its state, command and state, and checked so
+abbrev pub no-arrow : Nfa → ℕ → ℕ → ℕ → Option Report
+no-arrow A s c t = or-else (no-state A s) (or-else (no-command c) (no-state A t))

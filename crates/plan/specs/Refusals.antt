@@ -1,6 +1,7 @@
 -- The number of each refusal and the values that it brings.
 use Prim.Native.Nat.{ℕ}
 use mathlib.Core.List.{List, [], _∷_}
+use Rattle.automata.specs.Drawing.{Report}
 use Rattle.plan.specs.declared.refusal.Refusal.{Refusal}
 use Rattle.plan.specs.declared.refusal.Refusal.the-variants.{NoSuchSide, SideFull, NoSuchState, NoSuchCommand, RunBufferShort, NotReflexive, NotTransitive, EndNotKept, ArrowNotMatched, CommandCount, NotCompared, ComparisonFailed, ComparisonFull, OrderLength, EmptyFile, Truncated, UnknownKind, WrongLength, MisplacedHead, OutOfRange, NotAscending, BufferShort}
 
@@ -52,3 +53,6 @@ values-of (MisplacedHead o) = o ∷ []
 values-of (OutOfRange o) = o ∷ []
 values-of (NotAscending o) = o ∷ []
 values-of (BufferShort n) = n ∷ []
+
+abbrev pub report-of : Refusal → Report
+report-of e = record { number = number-of e; values = values-of e }
