@@ -8,3 +8,4 @@ pub mod Exact
 pub mod InTurn
 pub mod Scans
 pub mod Pieces
+pub mod Drawn
