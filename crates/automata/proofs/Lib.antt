@@ -3,3 +3,5 @@ pub mod Packs
 pub mod Lists
 pub mod Rows
 pub mod Cuts
+pub mod Halves
+pub mod Fixed
