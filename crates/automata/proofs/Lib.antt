@@ -5,3 +5,5 @@ pub mod Rows
 pub mod Cuts
 pub mod Halves
 pub mod Fixed
+pub mod Fronts
+pub mod Views
