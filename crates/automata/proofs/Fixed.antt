@@ -1,6 +1,6 @@
 use Prim.Native.Nat.{ℕ, zero, suc, _+_, _-_, _*_, _<_, _≤_}
 use mathlib.Core.Path.{_≡_, refl, sym, _∙_, ap, subst}
-use mathlib.Core.Logic.{inl, inr, ⊎-elim}
+use mathlib.Core.Logic.{inl, inr}
 use mathlib.Core.List.{List, [], _∷_, _++_, append-assoc}
 use native.Mathlib.Omega.{arith}
 use native.Mathlib.Nat.{mul-zero, mul-suc}
@@ -35,9 +35,9 @@ mem-drop z (suc n) (x ∷ xs) m = inr (mem-drop z n xs m)
 pub mem-part : (xs : List (List ℕ)) (lo hi i : ℕ) → lo ≤ i → i < hi → i < length xs → Mem (getD xs i []) (take (hi - lo) (drop lo xs))
 mem-part xs lo hi i a b h =
     let e : getD (take (hi - lo) (drop lo xs)) (i - lo) [] ≡ getD xs i [] =
-      getD-take (hi - lo) (drop lo xs) (i - lo) [] (omega arith)
-      ∙ getD-drop lo xs (i - lo) []
-      ∙ ap (λ (j : ℕ). getD xs j []) (omega arith) in
+    getD-take (hi - lo) (drop lo xs) (i - lo) [] (omega arith)
+    ∙ getD-drop lo xs (i - lo) []
+    ∙ ap (λ (j : ℕ). getD xs j []) (omega arith) in
     subst (λ z. Mem z (take (hi - lo) (drop lo xs))) e
     (mem-at (take (hi - lo) (drop lo xs)) (i - lo) (omega (arith, length-take (hi - lo) (drop lo xs), length-drop lo xs)))
 

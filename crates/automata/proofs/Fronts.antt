@@ -1,6 +1,6 @@
-use Prim.Native.Nat.{ℕ, zero, suc, _+_, _<_, _≤_}
-use mathlib.Core.Path.{_≡_, refl, sym, _∙_, ap, ap₂, subst}
-use mathlib.Core.Bool.{true, false, cond, _&&_}
+use Prim.Native.Nat.{ℕ, zero, suc, _+_, _≤_}
+use mathlib.Core.Path.{_≡_, refl, sym, _∙_, ap, ap₂}
+use mathlib.Core.Bool.{_&&_}
 use mathlib.Core.Logic.{inl, inr}
 use mathlib.Core.List.{List, [], _∷_, _++_, append-assoc}
 use native.Mathlib.Omega.{arith}
@@ -20,9 +20,9 @@ front-from-within zero f at h = (omega arith, h)
 front-from-within (suc m) f at h =
     cond-both (leb (at + 5) (length f) && eqb (getD f at 0) 3) (front-from m f (at + 5)) at (λ r. (at ≤ r) × (r ≤ length f))
     (λ e.
-      let p = and-parts (leb (at + 5) (length f)) (eqb (getD f at 0) 3) e in
-      let r = front-from-within m f (at + 5) (leb-true (at + 5) (length f) (p .0)) in
-      (omega (arith, r .0), r .1))
+    let p = and-parts (leb (at + 5) (length f)) (eqb (getD f at 0) 3) e in
+    let r = front-from-within m f (at + 5) (leb-true (at + 5) (length f) (p .0)) in
+    (omega (arith, r .0), r .1))
     (λ _. (omega arith, h))
 
 pub front-within : (f : List ℕ) → front f ≤ length f

@@ -7,16 +7,17 @@ use lib.Dec.{ltb}
 use Rattle.std.proofs.shelf.Tests.{cases-lt, lt-ltb, le-ltb, ltb-true, ltb-false, cond-true, cond-false, cond-both}
 use Rattle.automata.specs.Lookup.{halving}
 
-abbrev middle : ℕ → ℕ → ℕ
+-- where the search looks next
+abbrev pub middle : ℕ → ℕ → ℕ
 middle lo hi = lo + (hi - lo) / 2
 
 -- one step of the search
-halving-step : (m : ℕ) (at : ℕ → ℕ) (k lo hi : ℕ) → lo < hi →
+pub halving-step : (m : ℕ) (at : ℕ → ℕ) (k lo hi : ℕ) → lo < hi →
     halving (suc m) at k lo hi ≡ cond (ltb (at (middle lo hi)) k) (halving m at k (middle lo hi + 1) hi) (halving m at k lo (middle lo hi))
 unfolding halving
 halving-step m at k lo hi h = cond-true (ltb lo hi) _ lo (lt-ltb lo hi h)
 
-halving-done : (m : ℕ) (at : ℕ → ℕ) (k lo hi : ℕ) → hi ≤ lo → halving m at k lo hi ≡ lo
+pub halving-done : (m : ℕ) (at : ℕ → ℕ) (k lo hi : ℕ) → hi ≤ lo → halving m at k lo hi ≡ lo
 unfolding halving
 halving-done zero at k lo hi h = refl
 halving-done (suc m) at k lo hi h = cond-false (ltb lo hi) _ lo (le-ltb lo hi h)
@@ -37,11 +38,11 @@ halving-enough (suc m) zero at k lo hi h l = halving-done (suc m) at k lo hi (om
 halving-enough (suc m) (suc n) at k lo hi h l =
     ⊎-elim
     (λ lt.
-      halving-step m at k lo hi lt
-      ∙ ap₂ (λ (x y : ℕ). cond (ltb (at (middle lo hi)) k) x y)
-      (halving-enough m n at k (middle lo hi + 1) hi (omega arith) (omega arith))
-      (halving-enough m n at k lo (middle lo hi) (omega arith) (omega arith))
-      ∙ sym (halving-step n at k lo hi lt))
+    halving-step m at k lo hi lt
+    ∙ ap₂ (λ (x y : ℕ). cond (ltb (at (middle lo hi)) k) x y)
+    (halving-enough m n at k (middle lo hi + 1) hi (omega arith) (omega arith))
+    (halving-enough m n at k lo (middle lo hi) (omega arith) (omega arith))
+    ∙ sym (halving-step n at k lo hi lt))
     (λ ge. halving-done (suc m) at k lo hi ge ∙ sym (halving-done (suc n) at k lo hi ge))
     (cases-lt lo hi)
 
@@ -52,9 +53,9 @@ halving-range zero at k lo hi h = (omega arith, h)
 halving-range (suc m) at k lo hi h =
     ⊎-elim
     (λ lt.
-      halving-cases m at k lo hi (λ r. (lo ≤ r) × (r ≤ hi)) lt
-      (λ _. let r = halving-range m at k (middle lo hi + 1) hi (omega arith) in (omega arith, r .1))
-      (λ _. let r = halving-range m at k lo (middle lo hi) (omega arith) in (r .0, omega arith)))
+    halving-cases m at k lo hi (λ r. (lo ≤ r) × (r ≤ hi)) lt
+    (λ _. let r = halving-range m at k (middle lo hi + 1) hi (omega arith) in (omega arith, r .1))
+    (λ _. let r = halving-range m at k lo (middle lo hi) (omega arith) in (r .0, omega arith)))
     (λ ge. let e = halving-done (suc m) at k lo hi ge in (omega arith, omega arith))
     (cases-lt lo hi)
 
@@ -75,12 +76,12 @@ halving-boundary zero at n k lo hi mono enough h l below above = record {
 halving-boundary (suc m) at n k lo hi mono enough h l below above =
     ⊎-elim
     (λ lt.
-      halving-cases m at k lo hi (Boundary at n k) lt
-      (λ low. halving-boundary m at n k (middle lo hi + 1) hi mono (omega arith) (omega arith) l
-      (λ i a. omega (arith, mono i (middle lo hi) (omega arith) (omega arith))) above)
-      (λ high. halving-boundary m at n k lo (middle lo hi) mono (omega arith) (omega arith) (omega arith) below
-      (λ i a b. omega (arith, mono (middle lo hi) i a b))))
+    halving-cases m at k lo hi (Boundary at n k) lt
+    (λ low. halving-boundary m at n k (middle lo hi + 1) hi mono (omega arith) (omega arith) l
+    (λ i a. omega (arith, mono i (middle lo hi) (omega arith) (omega arith))) above)
+    (λ high. halving-boundary m at n k lo (middle lo hi) mono (omega arith) (omega arith) (omega arith) below
+    (λ i a b. omega (arith, mono (middle lo hi) i a b))))
     (λ ge.
-      subst (Boundary at n k) (sym (halving-done (suc m) at k lo hi ge))
-      (record { below = below; above = λ i a b. above i (omega arith) b }))
+    subst (Boundary at n k) (sym (halving-done (suc m) at k lo hi ge))
+    (record { below = below; above = λ i a b. above i (omega arith) b }))
     (cases-lt lo hi)

@@ -1,7 +1,7 @@
-use Prim.Native.Nat.{ℕ, zero, suc, _+_, _-_, _*_, _^_, _<_, _≤_, min}
+use Prim.Native.Nat.{ℕ, zero, suc, _+_, _-_, _*_, _^_, _<_, _≤_}
 use mathlib.Core.Path.{_≡_, refl, sym, _∙_, ap, ap₂, subst, subst₂}
 use mathlib.Core.Bool.{Bool, true, false, cond, _&&_}
-use mathlib.Core.Logic.{_⊎_, inl, inr, ⊎-elim}
+use mathlib.Core.Logic.{inl, inr, ⊎-elim}
 use mathlib.Core.List.{List, [], _∷_, _++_, append-assoc}
 use native.Mathlib.Omega.{arith}
 use lib.Dec.{ltb}
@@ -31,7 +31,7 @@ viewed-proper f = record {
   starting = pack-lt n (λ s. memb (start-record s) (cut (take (front f) f)));
   ending = pack-lt n (λ s. memb (end-record s) (cut (take (front f) f)));
   within = λ s c. cond-both (ltb s n && ltb c 26) (pack n (λ t. memb (arrow-record s c t) (arrows-at f s c))) 0 (λ x. x < 2 ^ n)
-    (λ _. pack-lt n (λ t. memb (arrow-record s c t) (arrows-at f s c))) (λ _. pow-pos n);
+      (λ _. pack-lt n (λ t. memb (arrow-record s c t) (arrows-at f s c))) (λ _. pow-pos n);
   stateless = λ s c h. cond-false (ltb s n && ltb c 26) _ 0 (and-left (ltb s n) (ltb c 26) (le-ltb s n h));
   unknown = λ s c h. cond-false (ltb s n && ltb c 26) _ 0 (and-right (ltb s n) (ltb c 26) (le-ltb c 26 h));
 }
@@ -100,9 +100,12 @@ module _ (A : Nfa) where
 
   front-few : A .count ≤ 32 → length front-part ≤ 65
   front-few few =
-      omega (arith, length-append (starts-part A) (ends-part A),
-      length-each (A .count) (λ s. when (has (A .starts) s) (start-record s)) (λ s. length-when (has (A .starts) s) (start-record s)),
-      length-each (A .count) (λ s. when (has (A .ends) s) (end-record s)) (λ s. length-when (has (A .ends) s) (end-record s)))
+      omega (
+        arith,
+        length-append (starts-part A) (ends-part A),
+        length-each (A .count) (λ s. when (has (A .starts) s) (start-record s)) (λ s. length-when (has (A .starts) s) (start-record s)),
+        length-each (A .count) (λ s. when (has (A .ends) s) (end-record s)) (λ s. length-when (has (A .ends) s) (end-record s)),
+      )
 
   arrows-wide : Wide 7 (arrows-part A)
   arrows-wide z m = ap length (in-arrows A z m .7)
@@ -146,6 +149,7 @@ module _ (A : Nfa) where
       (subst₂ (λ (u v : ℕ). has (A .targets u v) (r .2) ≡ true) (sym (e 4)) (sym (e 5)) (r .6))
 
 module _ (A : Nfa) (proper : Proper A) where
+  -- the records of the arrows
   abbrev R : List (List ℕ)
   R = arrows-part A
 
@@ -174,9 +178,9 @@ module _ (A : Nfa) (proper : Proper A) where
   arrows-file lo hi =
       let e : front (file A) + 7 * lo ≡ length (joined (front-part A)) + 7 * lo = omega (arith, front-file) in
       let d : drop (front (file A) + 7 * lo) (file A) ≡ joined (drop lo R) =
-        ap₂ (λ (n : ℕ) (f : List ℕ). drop n f) e (file-parts A)
-        ∙ drop-append-add (joined (front-part A)) (joined R) (7 * lo)
-        ∙ drop-joined 7 R lo (arrows-wide A) in
+      ap₂ (λ (n : ℕ) (f : List ℕ). drop n f) e (file-parts A)
+      ∙ drop-append-add (joined (front-part A)) (joined R) (7 * lo)
+      ∙ drop-joined 7 R lo (arrows-wide A) in
       let n : 7 * hi - 7 * lo ≡ 7 * (hi - lo) = omega arith in
       ap₂ (λ (n : ℕ) (f : List ℕ). cut (take n f)) n d
       ∙ ap cut (take-joined 7 (drop lo R) (hi - lo) (λ z m. arrows-wide A z (mem-drop z lo R m)))
@@ -258,13 +262,13 @@ module _ (A : Nfa) (proper : Proper A) where
   unfolding viewed
   viewed-file =
       let st : pack (stated-count (file A)) (λ s. memb (start-record s) (cut (take (front (file A)) (file A)))) ≡ A .starts =
-        ap₂ (λ (n : ℕ) (gs : List (List ℕ)). pack n (λ s. memb (start-record s) gs)) count-file cut-front
-        ∙ pack-cong (A .count) (λ s. memb (start-record s) (front-part A)) (has (A .starts)) (start-test A)
-        ∙ pack-same (A .count) (A .starts) (proper .starting) in
+      ap₂ (λ (n : ℕ) (gs : List (List ℕ)). pack n (λ s. memb (start-record s) gs)) count-file cut-front
+      ∙ pack-cong (A .count) (λ s. memb (start-record s) (front-part A)) (has (A .starts)) (start-test A)
+      ∙ pack-same (A .count) (A .starts) (proper .starting) in
       let en : pack (stated-count (file A)) (λ s. memb (end-record s) (cut (take (front (file A)) (file A)))) ≡ A .ends =
-        ap₂ (λ (n : ℕ) (gs : List (List ℕ)). pack n (λ s. memb (end-record s) gs)) count-file cut-front
-        ∙ pack-cong (A .count) (λ s. memb (end-record s) (front-part A)) (has (A .ends)) (end-test A)
-        ∙ pack-same (A .count) (A .ends) (proper .ending) in
+      ap₂ (λ (n : ℕ) (gs : List (List ℕ)). pack n (λ s. memb (end-record s) gs)) count-file cut-front
+      ∙ pack-cong (A .count) (λ s. memb (end-record s) (front-part A)) (has (A .ends)) (end-test A)
+      ∙ pack-same (A .count) (A .ends) (proper .ending) in
       let ta : (s c : ℕ) → cond (ltb s (stated-count (file A)) && ltb c 26) (pack (stated-count (file A)) (λ t. memb (arrow-record s c t) (arrows-at (file A) s c))) 0 ≡ A .targets s c =
-        λ s c. ap (λ (n : ℕ). cond (ltb s n && ltb c 26) (pack n (λ t. memb (arrow-record s c t) (arrows-at (file A) s c))) 0) count-file ∙ targets-file s c in
+      λ s c. ap (λ (n : ℕ). cond (ltb s n && ltb c 26) (pack n (λ t. memb (arrow-record s c t) (arrows-at (file A) s c))) 0) count-file ∙ targets-file s c in
       λ i. record { count = count-file i; starts = st i; ends = en i; targets = λ s c. ta s c i }
