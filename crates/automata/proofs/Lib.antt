@@ -9,3 +9,7 @@ pub mod InTurn
 pub mod Scans
 pub mod Pieces
 pub mod Drawn
+pub mod Halves
+pub mod Fixed
+pub mod Fronts
+pub mod Views

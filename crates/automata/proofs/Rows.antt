@@ -34,23 +34,23 @@ module _ (A : Nfa) where
   abbrev arrows-from : ℕ → List (List ℕ)
   arrows-from s = each 26 (arrows-of s)
 
-  abbrev starts-part : List (List ℕ)
+  abbrev pub starts-part : List (List ℕ)
   starts-part = each (A .count) start-at
 
-  abbrev ends-part : List (List ℕ)
+  abbrev pub ends-part : List (List ℕ)
   ends-part = each (A .count) end-at
 
-  abbrev arrows-part : List (List ℕ)
+  abbrev pub arrows-part : List (List ℕ)
   arrows-part = each (A .count) arrows-from
 
   -- the parts' members
-  in-starts : (z : List ℕ) → Mem z starts-part → (s : ℕ) × (s < A .count) × (has (A .starts) s ≡ true) × (z ≡ start-record s)
+  pub in-starts : (z : List ℕ) → Mem z starts-part → (s : ℕ) × (s < A .count) × (has (A .starts) s ≡ true) × (z ≡ start-record s)
   in-starts z m =
       let r = mem-each z (A .count) start-at m in
       let w = mem-when z (has (A .starts) (r .0)) (start-record (r .0)) (r .2) in
       (r .0, r .1, w .0, w .1)
 
-  in-ends : (z : List ℕ) → Mem z ends-part → (s : ℕ) × (s < A .count) × (has (A .ends) s ≡ true) × (z ≡ end-record s)
+  pub in-ends : (z : List ℕ) → Mem z ends-part → (s : ℕ) × (s < A .count) × (has (A .ends) s ≡ true) × (z ≡ end-record s)
   in-ends z m =
       let r = mem-each z (A .count) end-at m in
       let w = mem-when z (has (A .ends) (r .0)) (end-record (r .0)) (r .2) in
@@ -69,7 +69,7 @@ module _ (A : Nfa) where
       let w = in-arrows-of z s (r .0) (r .2) in
       (r .0, w .0, r .1, w .1, w .2, w .3)
 
-  in-arrows : (z : List ℕ) → Mem z arrows-part →
+  pub in-arrows : (z : List ℕ) → Mem z arrows-part →
       (s c t : ℕ) × (s < A .count) × (c < 26) × (t < A .count) × (has (A .targets s c) t ≡ true) × (z ≡ arrow-record s c t)
   in-arrows z m =
       let r = mem-each z (A .count) arrows-from m in
@@ -88,21 +88,29 @@ module _ (A : Nfa) where
       (mem-cases z ends-part arrows-part b))
       (mem-cases z starts-part (ends-part ++ arrows-part) m)
 
+  pub start-mem : (s : ℕ) → s < A .count → has (A .starts) s ≡ true → Mem (start-record s) starts-part
+  start-mem s l h = each-mem (start-record s) (A .count) start-at s l (when-mem (has (A .starts) s) (start-record s) h)
+
+  pub end-mem : (s : ℕ) → s < A .count → has (A .ends) s ≡ true → Mem (end-record s) ends-part
+  end-mem s l h = each-mem (end-record s) (A .count) end-at s l (when-mem (has (A .ends) s) (end-record s) h)
+
+  pub arrow-mem : (s c t : ℕ) → s < A .count → c < 26 → t < A .count → has (A .targets s c) t ≡ true → Mem (arrow-record s c t) arrows-part
+  arrow-mem s c t ls lc lt h =
+      each-mem (arrow-record s c t) (A .count) arrows-from s ls
+      (each-mem (arrow-record s c t) 26 (arrows-of s) c lc
+      (each-mem (arrow-record s c t) (A .count) (arrow-at s c) t lt (when-mem (has (A .targets s c) t) (arrow-record s c t) h)))
+
   pub row-mem : (z : List ℕ) → Row A z → Mem z (records A)
   unfolding records arrows
   row-mem z (head e) = inl e
   row-mem z (start s l h e) =
-      inr (mem-left z starts-part (ends-part ++ arrows-part)
-      (subst (λ w. Mem w starts-part) (sym e) (each-mem (start-record s) (A .count) start-at s l (when-mem (has (A .starts) s) (start-record s) h))))
+      inr (mem-left z starts-part (ends-part ++ arrows-part) (subst (λ w. Mem w starts-part) (sym e) (start-mem s l h)))
   row-mem z (end s l h e) =
       inr (mem-right z starts-part (ends-part ++ arrows-part) (mem-left z ends-part arrows-part
-      (subst (λ w. Mem w ends-part) (sym e) (each-mem (end-record s) (A .count) end-at s l (when-mem (has (A .ends) s) (end-record s) h)))))
+      (subst (λ w. Mem w ends-part) (sym e) (end-mem s l h))))
   row-mem z (arrow s c t ls lc lt h e) =
       inr (mem-right z starts-part (ends-part ++ arrows-part) (mem-right z ends-part arrows-part
-      (subst (λ w. Mem w arrows-part) (sym e)
-      (each-mem (arrow-record s c t) (A .count) arrows-from s ls
-      (each-mem (arrow-record s c t) 26 (arrows-of s) c lc
-      (each-mem (arrow-record s c t) (A .count) (arrow-at s c) t lt (when-mem (has (A .targets s c) t) (arrow-record s c t) h)))))))
+      (subst (λ w. Mem w arrows-part) (sym e) (arrow-mem s c t ls lc lt h))))
 
   -- they ascend
   asc-starts : Asc starts-part
@@ -133,7 +141,7 @@ module _ (A : Nfa) where
       let b = in-arrows-of y s k n in
       subst₂ Before (sym (a .3)) (sym (b .3)) (inr (refl, inr (refl, inr (refl, inl l)))))
 
-  asc-arrows : Asc arrows-part
+  pub asc-arrows : Asc arrows-part
   asc-arrows = asc-each (A .count) arrows-from asc-arrows-from
       (λ j k x y l m n.
       let a = in-arrows-from x j m in

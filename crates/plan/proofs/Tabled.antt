@@ -87,4 +87,4 @@ pub without-within : (x k n : ℕ) → x < 2 ^ n → without x k < 2 ^ n
 without-within x k n h = omega (arith, and-le-l x (2 ^ 32 - 1 - 2 ^ k))
 
 pub wider : (x n : ℕ) → x < 2 ^ n → x < 2 ^ (n + 1)
-wider x n h = let l : n ≤ n + 1 = omega arith in omega (arith, pow-mono {n = 2} l)
+wider x n h = let l : n ≤ n + 1 = omega arith in omega (arith, pow-mono l)
