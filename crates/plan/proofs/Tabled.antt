@@ -45,7 +45,7 @@ one-place s c i j hc hj =
     (λ ne. ne-eqb _ _ (λ z. ne (omega arith)) ∙ sym (and-left (eqb i s) (eqb j c) (ne-eqb i s ne)))
     (cases-eq i s)
 
-pub changed : (f : ℕ → ℕ) (n a e : ℕ) (r : List ℕ) (s c v : ℕ) → s * 26 + c < length r → c < 26 → v ≡ f (getD r (s * 26 + c) 0) →
+changed : (f : ℕ → ℕ) (n a e : ℕ) (r : List ℕ) (s c v : ℕ) → s * 26 + c < length r → c < 26 → v ≡ f (getD r (s * 26 + c) 0) →
     tabled n a e (set r (s * 26 + c) v) ≡ retargeted s c f (tabled n a e r)
 changed f n a e r s c v h hc ev = λ i. record { count = n; starts = a; ends = e; targets = λ s′ c′. same s′ c′ i }
   where
@@ -71,6 +71,11 @@ changed f n a e r s c v h hc ev = λ i. record { count = n; starts = a; ends = e
         let m : (eqb i s && eqb j c) ≡ false = and-right (eqb i s) (eqb j c) (ne-eqb j c (λ z. omega arith)) in
         simp (b, m))
         (cases-lt j 26)
+
+pub changed-at : (f : ℕ → ℕ) (n a e : ℕ) (r : List ℕ) (p s c v : ℕ) → p ≡ s * 26 + c → p < length r → c < 26 → v ≡ f (getD r p 0) →
+    tabled n a e (set r p v) ≡ retargeted s c f (tabled n a e r)
+changed-at f n a e r p s c v q h hc ev =
+    ap (λ (k : ℕ). tabled n a e (set r k v)) q ∙ changed f n a e r s c v (omega arith) hc (ev ∙ ap (λ (k : ℕ). f (getD r k 0)) q)
 
 -- the invariant of a table
 pub set-within : (r : List ℕ) (p v n : ℕ) → p < length r → ((k : ℕ) → getD r k 0 < 2 ^ n) → v < 2 ^ n → (k : ℕ) → getD (set r p v) k 0 < 2 ^ n
