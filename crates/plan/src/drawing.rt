@@ -1,7 +1,7 @@
 ghost use mathlib.Core.Path.{_≡_};
 ghost use mathlib.Core.Option.{none, some as just};
 ghost use Prim.Native.Nat.{ℕ, _+_, _*_, _<_, _≤_};
-ghost use lib.ListN.{getD};
+ghost use lib.ListN.{length, getD};
 ghost use mathlib.Core.List.{List};
 ghost use Rattle.std.specs.Results.{Cases};
 ghost use Rattle.automata.specs.Drawing.{blank, with-state, with-start, with-end, with-arrow, without-arrow, no-room, no-state, no-arrow};
@@ -12,8 +12,10 @@ use automata::sets;
 use crate::refusal::Refusal;
 use crate::table::Table;
 
-fn no_arrows() -> [u32; 832]
-    ensures { λ r. ⌜ ((k : ℕ) → getD r k 0 ≡ 0) ⌝ }
+/// No targets for any state and command.
+pub(crate) fn no_arrows() -> [u32; 832]
+    ensures len { λ r. ⌜ length r ≡ 832 ⌝ }
+    ensures zero { λ r. ⌜ ((k : ℕ) → getD r k 0 ≡ 0) ⌝ }
 {
     [0; 832]
 }

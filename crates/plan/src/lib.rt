@@ -7,4 +7,5 @@ pub mod lookup;
 pub mod reader;
 pub mod refusal;
 pub mod table;
+pub mod table_plan;
 pub mod writer;

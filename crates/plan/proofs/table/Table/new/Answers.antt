@@ -7,5 +7,5 @@ use Rattle.plan.proofs.table.Table.new.Needs as need
 
 pub returns : need.returns
 returns c =
-    let e = empty _ (c .no-arrows .ensures) in
+    let e = empty _ (c .no-arrows .ensures .zero) in
     record { meaning = e; no-runs = λ w p. blank-permits-none w (subst (λ (A : Nfa). Permits A w) e p) }
