@@ -1,4 +1,4 @@
-use Prim.Native.Nat.{ℕ, zero, suc, _+_, _≤_}
+use Prim.Native.Nat.{ℕ, zero, suc, _+_, _-_, _<_, _≤_}
 use mathlib.Core.Path.{_≡_, refl, sym, _∙_, ap, ap₂}
 use mathlib.Core.Bool.{_&&_}
 use mathlib.Core.Logic.{inl, inr}
@@ -8,7 +8,7 @@ use native.Mathlib.Nat.{add-zero}
 use lib.Dec.{eqb, leb}
 use lib.ListN.{length, getD, length-append, List·getD-append}
 use lib.Seq.{getD-append-add}
-use Rattle.std.proofs.shelf.Tests.{le-leb, leb-true, eq-eqb, ne-eqb, and-parts, and-from, and-right, cond-true, cond-false, cond-both}
+use Rattle.std.proofs.shelf.Tests.{le-leb, leb-true, eq-eqb, eqb-true, ne-eqb, and-parts, and-from, and-right, cond-true, cond-false, cond-both}
 use Rattle.automata.specs.Files.{joined}
 use Rattle.automata.specs.Lookup.{front-from, front}
 use Rattle.automata.proofs.Lists.{Mem}
@@ -70,3 +70,26 @@ front-from-joined (suc m) (g ∷ gs) p r l s ne =
 pub front-joined : (gs : List (List ℕ)) (r : List ℕ) → length gs ≤ 65 → ((z : List ℕ) → Mem z gs → Short z) →
     (getD r 0 0 ≡ 3 → ⊥) → front (joined gs ++ r) ≡ length (joined gs)
 front-joined gs r l s ne = front-from-joined 65 gs [] r l s ne ∙ omega arith
+
+-- the scan, step by step: i steps are done
+pub front-more : (f : List ℕ) (i at : ℕ) → i < 65 → at + 5 ≤ length f → getD f at 0 ≡ 3 → front-from (65 - i) f at ≡ front-from (65 - (i + 1)) f (at + 5)
+unfolding front-from
+front-more f i at l h e =
+    let s : 65 - i ≡ suc (65 - (i + 1)) = omega arith in
+    ap (λ (m : ℕ). front-from m f at) s
+    ∙ cond-true (leb (at + 5) (length f) && eqb (getD f at 0) 3) _ at
+    (and-from (leb (at + 5) (length f)) (eqb (getD f at 0) 3) (le-leb (at + 5) (length f) h) (eq-eqb (getD f at 0) 3 e))
+
+pub front-end : (f : List ℕ) (m at : ℕ) → (at + 5 ≤ length f → getD f at 0 ≡ 3 → ⊥) → front-from m f at ≡ at
+unfolding front-from
+front-end f zero at h = refl
+front-end f (suc m) at h =
+    cond-both (leb (at + 5) (length f) && eqb (getD f at 0) 3) (front-from m f (at + 5)) at (λ r. r ≡ at)
+    (λ e.
+    let p = and-parts (leb (at + 5) (length f)) (eqb (getD f at 0) 3) e in
+    absurd (h (leb-true (at + 5) (length f) (p .0)) (eqb-true (getD f at 0) 3 (p .1))))
+    (λ _. refl)
+
+pub front-done : (f : List ℕ) (i at : ℕ) → 65 ≤ i → front-from (65 - i) f at ≡ at
+unfolding front-from
+front-done f i at h = let z : 65 - i ≡ 0 = omega arith in ap (λ (m : ℕ). front-from m f at) z

@@ -85,3 +85,18 @@ halving-boundary (suc m) at n k lo hi mono enough h l below above =
     subst (Boundary at n k) (sym (halving-done (suc m) at k lo hi ge))
     (record { below = below; above = λ i a b. above i (omega arith) b }))
     (cases-lt lo hi)
+
+-- one step of a search with just enough fuel
+module _ (at : ℕ → ℕ) (k lo hi : ℕ) (h : lo < hi) where
+  enough : halving (hi - lo) at k lo hi ≡ halving (suc (hi - lo)) at k lo hi
+  enough = halving-enough (hi - lo) (suc (hi - lo)) at k lo hi (omega arith) (omega arith)
+
+  pub search-above : at (middle lo hi) < k → halving (hi - lo) at k lo hi ≡ halving (hi - (middle lo hi + 1)) at k (middle lo hi + 1) hi
+  search-above l =
+      enough ∙ halving-step (hi - lo) at k lo hi h ∙ cond-true (ltb (at (middle lo hi)) k) _ _ (lt-ltb (at (middle lo hi)) k l)
+      ∙ halving-enough (hi - lo) (hi - (middle lo hi + 1)) at k (middle lo hi + 1) hi (omega arith) (omega arith)
+
+  pub search-below : k ≤ at (middle lo hi) → halving (hi - lo) at k lo hi ≡ halving (middle lo hi - lo) at k lo (middle lo hi)
+  search-below l =
+      enough ∙ halving-step (hi - lo) at k lo hi h ∙ cond-false (ltb (at (middle lo hi)) k) _ _ (le-ltb (at (middle lo hi)) k l)
+      ∙ halving-enough (hi - lo) (middle lo hi - lo) at k lo (middle lo hi) (omega arith) (omega arith)

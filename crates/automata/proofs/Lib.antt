@@ -13,3 +13,4 @@ pub mod Halves
 pub mod Fixed
 pub mod Fronts
 pub mod Views
+pub mod Marks

@@ -8,7 +8,8 @@ use lib.Dec.{ltb}
 use lib.ListN.{length, getD, take, drop, length-append, List·getD-append}
 use lib.Seq.{take-append-seam, drop-append-add, getD-append-add}
 use lib.Pow.{pow-pos}
-use Rattle.std.proofs.shelf.Tests.{cases-eq, cases-lt, and-parts, and-cases, and-left, and-right, ltb-true, ltb-false, le-ltb, cond-false, cond-both}
+use native.Mathlib.Nat.{sub-zero}
+use Rattle.std.proofs.shelf.Tests.{cases-eq, cases-lt, and-parts, and-from, lt-ltb, cond-true, and-cases, and-left, and-right, ltb-true, ltb-false, le-ltb, cond-false, cond-both}
 use Rattle.automata.specs.Nfa.{Nfa, Proper}
 use Rattle.automata.specs.Sets.{has, pack}
 use Rattle.automata.specs.Records.{head-record, start-record, end-record, arrow-record, len}
@@ -272,3 +273,25 @@ module _ (A : Nfa) (proper : Proper A) where
       let ta : (s c : ℕ) → cond (ltb s (stated-count (file A)) && ltb c 26) (pack (stated-count (file A)) (λ t. memb (arrow-record s c t) (arrows-at (file A) s c))) 0 ≡ A .targets s c =
       λ s c. ap (λ (n : ℕ). cond (ltb s n && ltb c 26) (pack n (λ t. memb (arrow-record s c t) (arrows-at (file A) s c))) 0) count-file ∙ targets-file s c in
       λ i. record { count = count-file i; starts = st i; ends = en i; targets = λ s c. ta s c i }
+
+-- the four answers that are read off the bytes, each from the part of them that it needs
+pub viewed-count : (f : List ℕ) → viewed f .count ≡ stated-count f
+unfolding viewed
+viewed-count f = refl
+
+pub viewed-starts : (f : List ℕ) (n at : ℕ) → n ≡ stated-count f → at ≡ front f → pack n (λ k. memb (start-record k) (cut (take (at - 0) f))) ≡ viewed f .starts
+unfolding viewed
+viewed-starts f n at e h =
+    ap₂ (λ (m a : ℕ). pack m (λ k. memb (start-record k) (cut (take a f)))) e (sub-zero at ∙ h)
+
+pub viewed-ends : (f : List ℕ) (n at : ℕ) → n ≡ stated-count f → at ≡ front f → pack n (λ k. memb (end-record k) (cut (take (at - 0) f))) ≡ viewed f .ends
+unfolding viewed
+viewed-ends f n at e h =
+    ap₂ (λ (m a : ℕ). pack m (λ k. memb (end-record k) (cut (take a f)))) e (sub-zero at ∙ h)
+
+pub viewed-targets : (f : List ℕ) (n s c : ℕ) (g : List ℕ) → n ≡ stated-count f → s < n → c < 26 → cut g ≡ arrows-at f s c →
+    pack n (λ k. memb (arrow-record s c k) (cut g)) ≡ viewed f .targets s c
+unfolding viewed
+viewed-targets f n s c g e hs hc h =
+    ap₂ (λ (m : ℕ) (gs : List (List ℕ)). pack m (λ k. memb (arrow-record s c k) gs)) e h
+    ∙ sym (cond-true (ltb s (stated-count f) && ltb c 26) _ 0 (and-from (ltb s (stated-count f)) (ltb c 26) (lt-ltb s (stated-count f) (omega (arith, e))) (lt-ltb c 26 hc)))
