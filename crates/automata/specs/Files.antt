@@ -16,9 +16,17 @@ unfoldable pub each : ℕ → (ℕ → List (List ℕ)) → List (List ℕ)
 each zero f = []
 each (suc n) f = each n f ++ f n
 
--- the arrows' records, ascending by state, command and state
+-- the records of the arrows from s under c, ascending by target
+abbrev pub arrows-under : Nfa → ℕ → ℕ → List (List ℕ)
+arrows-under A s c = each (A .count) (λ t. when (has (A .targets s c) t) (arrow-record s c t))
+
+-- the records of the arrows from s, ascending by command and target
+abbrev pub arrows-from : Nfa → ℕ → List (List ℕ)
+arrows-from A s = each 26 (λ c. arrows-under A s c)
+
+-- the records of all arrows, ascending by state, command and target
 unfoldable pub arrows : Nfa → List (List ℕ)
-arrows A = each (A .count) (λ s. each 26 (λ c. each (A .count) (λ t. when (has (A .targets s c) t) (arrow-record s c t))))
+arrows A = each (A .count) (λ s. arrows-from A s)
 
 -- the records of a plan: the head, the starts, the ends, the arrows, each ascending
 unfoldable pub records : Nfa → List (List ℕ)

@@ -1,2 +1,4 @@
 pub mod Tabled
 pub mod Reading
+pub mod Puts
+pub mod Writing
