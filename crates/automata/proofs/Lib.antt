@@ -14,3 +14,4 @@ pub mod Fixed
 pub mod Fronts
 pub mod Views
 pub mod Marks
+pub mod Steps

@@ -1,6 +1,7 @@
 pub mod Sets
 pub mod Nfa
 pub mod Runs
+pub mod Steps
 pub mod Drawing
 pub mod Records
 pub mod Files

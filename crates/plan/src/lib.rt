@@ -6,6 +6,7 @@ pub mod interface;
 pub mod lookup;
 pub mod reader;
 pub mod refusal;
+pub mod runs;
 pub mod table;
 pub mod table_plan;
 pub mod writer;
