@@ -6,7 +6,7 @@ ghost use Rattle.plan.specs.Refusals.{number-of, values-of};
 ///
 /// Each case has a fixed number, 1 to 22, and the values that it brings; states `p`, `q`, `r` and `target` are in the
 /// numbering of a comparison, and a `place` is the offset of a record's first byte.
-#[derive(Clone, Copy, PartialEq, Eq, Debug)]
+#[derive(Clone, Copy)]
 pub enum Refusal {
     /// 1: a side is 0 or 1.
     NoSuchSide,
