@@ -1,2 +1,4 @@
+pub mod Appends
 pub mod Splits
 pub mod Values
+pub mod Hexes
