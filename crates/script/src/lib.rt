@@ -3,4 +3,5 @@
 
 pub mod hex;
 pub mod numbers;
+pub mod statement;
 pub mod words;
