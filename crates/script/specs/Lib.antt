@@ -2,3 +2,4 @@ pub mod Words
 pub mod Numbers
 pub mod Hex
 pub mod Statements
+pub mod Verbs

@@ -3,14 +3,15 @@ use Prim.Native.Nat.{ℕ, _^_}
 use mathlib.Core.Bool.{Bool, true, false, cond, _&&_, _||_}
 use mathlib.Core.List.{List, [], _∷_}
 use denote.Ref.{now}
-use lib.Chars.{codes}
 use lib.Dec.{leb, eqb}
 use Rattle.std.specs.Options.{mapped}
 use Rattle.std.specs.declared.option.Option.{Option}
 use Rattle.std.specs.declared.option.Option.the-variants.{Some, None}
-use Rattle.std.specs.shelf.Text.{sameBytes}
 use Rattle.script.specs.declared.statement.Statement.{Statement}
 use Rattle.script.specs.declared.statement.Statement.the-variants as code
+use Rattle.script.specs.declared.verb.Verb.{Verb}
+use Rattle.script.specs.declared.verb.Verb.the-variants as verb
+use Rattle.script.specs.Verbs.{verb-of}
 use Rattle.script.specs.Numbers.{below, decimal, command-number}
 use Rattle.script.specs.Hex.{hex-word}
 
@@ -114,3 +115,27 @@ buffer-alone (w ∷ ws) = given (next length-of (w ∷ ws)) (λ a. last (a .0) (
 
 abbrev pub side-and-buffer : List (List ℕ) → Option (ℕ × ℕ)
 side-and-buffer ws = given (next byte-of ws) (λ a. mapped (λ n. (a .0, n)) (buffer-alone (a .1)))
+
+-- NAME or SIDE
+abbrev pub shown-of : List ℕ → Option Said
+shown-of w = cond (name-word w) (Some (show-plan w)) (mapped show-side (byte-of w))
+
+abbrev pub shown-alone : List (List ℕ) → Option Said
+shown-alone ws = given (next shown-of ws) (λ a. last (a .0) (a .1))
+
+-- what the words behind a verb say with it
+abbrev pub behind : Verb → List (List ℕ) → Option Said
+behind verb.Plan ws = mapped (λ a. plan (a .0) (a .1)) (name-and-hex ws)
+behind verb.Rewrite ws = mapped rewrite (name-alone ws)
+behind verb.State ws = mapped state (side-alone ws)
+behind verb.Start ws = mapped (λ a. start (a .0) (a .1)) (side-and-state ws)
+behind verb.End ws = mapped (λ a. end (a .0) (a .1)) (side-and-state ws)
+behind verb.Arrow ws = mapped (λ a. arrow (a .0) (a .1) (a .2) (a .3)) (side-and-arrow ws)
+behind verb.Lift ws = mapped (λ a. lift (a .0) (a .1) (a .2) (a .3)) (side-and-arrow ws)
+behind verb.Write ws = mapped (λ a. write (a .0) (a .1)) (side-and-buffer ws)
+behind verb.Show ws = shown-alone ws
+
+-- the statement that the words of a line are, if they are one
+abbrev pub statement : List (List ℕ) → Option Said
+statement [] = None
+statement (w ∷ ws) = given (verb-of w) (λ v. behind v ws)

@@ -4,4 +4,5 @@
 pub mod hex;
 pub mod numbers;
 pub mod statement;
+mod verb;
 pub mod words;

@@ -2,11 +2,13 @@ ghost use mathlib.Core.Path.{_≡_};
 ghost use Rattle.std.specs.Options.{mapped};
 ghost use Rattle.script.specs.Words.{words};
 ghost use Rattle.script.specs.Numbers.{command-number};
-ghost use Rattle.script.specs.Statements.{said, passed-over, name-word, name-of, hex-of, byte-of, next, no-words, name-alone, name-and-hex, side-alone, side-and-state, side-and-arrow, buffer-alone, side-and-buffer};
+ghost use Rattle.script.specs.Statements.{said, passed-over, name-word, name-of, hex-of, byte-of, next, no-words, name-alone, name-and-hex, side-alone, side-and-state, side-and-arrow, buffer-alone, side-and-buffer, shown-of, shown-alone, statement};
 use crate::hex::is_hex;
 use crate::numbers::byte;
 use crate::numbers::command;
 use crate::numbers::length;
+use crate::verb::Verb;
+use crate::verb::read_verb;
 use crate::words::first_word;
 
 /// A statement of a script. It borrows its names from the line.
@@ -154,4 +156,59 @@ fn side_and_buffer(text: &[u8]) -> Option<(u8, usize)>
 {
     let (side, rest) = next_byte(text)?;
     Some((side, buffer_alone(rest)?))
+}
+
+/// What to show: the plan of a name, or a side.
+fn shown(word: &[u8]) -> Option<Statement<'_>>
+    ensures { λ r. ⌜ mapped said r ≡ shown-of (now (word .entry)) ⌝ }
+{
+    if is_name(word) {
+        return Some(Statement::ShowPlan { name: word });
+    }
+    Some(Statement::ShowSide { side: byte(word)? })
+}
+
+/// One name or one side, to show.
+fn shown_alone(text: &[u8]) -> Option<Statement<'_>>
+    ensures { λ r. ⌜ mapped said r ≡ shown-alone (words (now (text .entry))) ⌝ }
+{
+    let (word, rest) = first_word(text)?;
+    let statement = shown(word)?;
+    if is_end(rest) { Some(statement) } else { None }
+}
+
+/// The statement that the line is, or nothing where it is malformed.
+pub fn parse(line: &[u8]) -> Option<Statement<'_>>
+    ensures { λ r. ⌜ mapped said r ≡ statement (words (now (line .entry))) ⌝ }
+{
+    let (word, rest) = first_word(line)?;
+    match read_verb(word)? {
+        Verb::Plan => {
+            let (name, hex) = name_and_hex(rest)?;
+            Some(Statement::Plan { name, hex })
+        }
+        Verb::Rewrite => Some(Statement::Rewrite { name: name_alone(rest)? }),
+        Verb::State => Some(Statement::State { side: side_alone(rest)? }),
+        Verb::Start => {
+            let (side, state) = side_and_state(rest)?;
+            Some(Statement::Start { side, state })
+        }
+        Verb::End => {
+            let (side, state) = side_and_state(rest)?;
+            Some(Statement::End { side, state })
+        }
+        Verb::Arrow => {
+            let (side, from, command, to) = side_and_arrow(rest)?;
+            Some(Statement::Arrow { side, from, command, to })
+        }
+        Verb::Lift => {
+            let (side, from, command, to) = side_and_arrow(rest)?;
+            Some(Statement::Lift { side, from, command, to })
+        }
+        Verb::Write => {
+            let (side, buffer) = side_and_buffer(rest)?;
+            Some(Statement::Write { side, buffer })
+        }
+        Verb::Show => shown_alone(rest),
+    }
 }

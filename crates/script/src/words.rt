@@ -4,7 +4,15 @@ ghost use mathlib.Core.List.{[], _∷_};
 ghost use Prim.Native.Nat.{_<_, _≤_};
 ghost use lib.ListN.{length, getD, take, drop};
 ghost use Rattle.std.specs.Options.{Cases};
+ghost use Rattle.std.specs.shelf.Text.{sameBytes};
 ghost use Rattle.script.specs.Words.{blank, before, words};
+
+/// Whether the word is just the text.
+pub fn is_text(word: &[u8], text: &[u8]) -> bool
+    ensures { λ r. ⌜ r ≡ sameBytes (now (word .entry)) (now (text .entry)) ⌝ }
+{
+    word == text
+}
 
 /// Whether the byte stands between words: space, tab or carriage return.
 fn is_blank(b: u8) -> bool
