@@ -3,3 +3,4 @@ pub mod Numbers
 pub mod Hex
 pub mod Statements
 pub mod Verbs
+pub mod Texts
