@@ -4,3 +4,4 @@ pub mod Hex
 pub mod Statements
 pub mod Verbs
 pub mod Texts
+pub mod Answers

@@ -1,6 +1,7 @@
 //! Everything about the text of a script: a statement is read from a line, and an answer is worded. All text is bytes,
 //! so that no input is an error of encoding.
 
+pub mod answer;
 pub mod echo;
 pub mod hex;
 pub mod numbers;
