@@ -2,3 +2,4 @@ pub mod Appends
 pub mod Splits
 pub mod Values
 pub mod Hexes
+pub mod Shows

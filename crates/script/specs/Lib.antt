@@ -5,3 +5,4 @@ pub mod Statements
 pub mod Verbs
 pub mod Texts
 pub mod Answers
+pub mod Show

@@ -5,6 +5,7 @@ pub mod answer;
 pub mod echo;
 pub mod hex;
 pub mod numbers;
+pub mod show;
 pub mod statement;
 mod text;
 mod verb;
