@@ -24,12 +24,20 @@ each (suc n) f = each n f ++ f n
 
 -- the arrows of a state under a command, on a line of their own; no line where there are none
 abbrev pub arrows-text : ℕ → ℕ → ℕ → List ℕ
-arrows-text s c x = cond (eqb x 0) [] (codes "\n  " ++ (numeral s ++ ((32 ∷ (97 + c) ∷ 32 ∷ []) ++ set-text x)))
+arrows-text s c x = cond (eqb x 0) [] ((10 ∷ 32 ∷ 32 ∷ []) ++ (numeral s ++ ((32 ∷ (97 + c) ∷ 32 ∷ []) ++ set-text x)))
+
+-- the arrows of a state under each command
+abbrev pub state-text : Nfa → ℕ → List ℕ
+state-text A s = each 26 (λ c. arrows-text s c (A .targets s c))
+
+-- a set behind its name
+abbrev pub named-set : List ℕ → ℕ → List ℕ
+named-set name x = name ++ set-text x
 
 -- the count of states, the starts and the ends
-abbrev pub head-text : ℕ → ℕ → ℕ → List ℕ
-head-text n s e = codes "states " ++ (numeral n ++ (codes ", starts " ++ (set-text s ++ (codes ", ends " ++ set-text e))))
+unfoldable pub head-text : ℕ → ℕ → ℕ → List ℕ
+head-text n s e = codes "states " ++ (numeral n ++ (named-set (codes ", starts ") s ++ named-set (codes ", ends ") e))
 
--- the head, and then the arrows of each state under each command
+-- the head, and then the arrows of each state
 abbrev pub plan-text : Nfa → List ℕ
-plan-text A = head-text (A .count) (A .starts) (A .ends) ++ each (A .count) (λ s. each 26 (λ c. arrows-text s c (A .targets s c)))
+plan-text A = head-text (A .count) (A .starts) (A .ends) ++ each (A .count) (state-text A)
