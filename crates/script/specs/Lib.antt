@@ -1,6 +1,7 @@
 pub mod Words
 pub mod Numbers
 pub mod Hex
+pub mod Arguments
 pub mod Statements
 pub mod Verbs
 pub mod Texts

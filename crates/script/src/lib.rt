@@ -2,6 +2,7 @@
 //! so that no input is an error of encoding.
 
 pub mod answer;
+mod arguments;
 pub mod echo;
 pub mod hex;
 pub mod numbers;

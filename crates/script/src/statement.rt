@@ -1,12 +1,16 @@
 ghost use mathlib.Core.Path.{_≡_};
 ghost use Rattle.std.specs.Options.{mapped};
 ghost use Rattle.script.specs.Words.{words};
-ghost use Rattle.script.specs.Numbers.{command-number};
-ghost use Rattle.script.specs.Statements.{said, passed-over, name-word, name-of, hex-of, byte-of, next, no-words, name-alone, name-and-hex, side-alone, side-and-state, side-and-arrow, buffer-alone, side-and-buffer, shown-of, shown-alone, statement};
-use crate::hex::is_hex;
+ghost use Rattle.script.specs.Statements.{said, passed-over, shown-of, behind, statement};
+use crate::arguments::is_end;
+use crate::arguments::is_name;
+use crate::arguments::name_alone;
+use crate::arguments::name_and_hex;
+use crate::arguments::side_alone;
+use crate::arguments::side_and_arrow;
+use crate::arguments::side_and_buffer;
+use crate::arguments::side_and_state;
 use crate::numbers::byte;
-use crate::numbers::command;
-use crate::numbers::length;
 use crate::verb::Verb;
 use crate::verb::read_verb;
 use crate::words::first_word;
@@ -46,116 +50,68 @@ pub fn is_passed_over(line: &[u8]) -> bool
     }
 }
 
-/// Whether the word is a name: it begins with a letter.
-fn is_name(word: &[u8]) -> bool
-    ensures { λ r. ⌜ r ≡ name-word (now (word .entry)) ⌝ }
+/// `plan NAME HEX`
+fn plan(text: &[u8]) -> Option<Statement<'_>>
+    ensures { λ r. ⌜ mapped said r ≡ behind Verb.Plan (words (now (text .entry))) ⌝ }
 {
-    word.len() > 0 && matches!(word[0], b'a'..=b'z' | b'A'..=b'Z')
+    let (name, hex) = name_and_hex(text)?;
+    Some(Statement::Plan { name, hex })
 }
 
-/// The first word as a number below 256, and what follows it.
-fn next_byte(text: &[u8]) -> Option<(u8, &[u8])>
-    ensures { λ r. ⌜ mapped (λ x. (x .0, words (x .1 .now))) r ≡ next byte-of (words (now (text .entry))) ⌝ }
+/// `rewrite NAME`
+fn rewrite(text: &[u8]) -> Option<Statement<'_>>
+    ensures { λ r. ⌜ mapped said r ≡ behind Verb.Rewrite (words (now (text .entry))) ⌝ }
 {
-    let (word, rest) = first_word(text)?;
-    Some((byte(word)?, rest))
+    let name = name_alone(text)?;
+    Some(Statement::Rewrite { name })
 }
 
-/// The first word as a command, and what follows it.
-fn next_command(text: &[u8]) -> Option<(u8, &[u8])>
-    ensures { λ r. ⌜ mapped (λ x. (x .0, words (x .1 .now))) r ≡ next command-number (words (now (text .entry))) ⌝ }
+/// `state SIDE`
+fn state(text: &[u8]) -> Option<Statement<'_>>
+    ensures { λ r. ⌜ mapped said r ≡ behind Verb.State (words (now (text .entry))) ⌝ }
 {
-    let (word, rest) = first_word(text)?;
-    Some((command(word)?, rest))
+    let side = side_alone(text)?;
+    Some(Statement::State { side })
 }
 
-/// The first word as a name, and what follows it.
-fn next_name(text: &[u8]) -> Option<(&[u8], &[u8])>
-    ensures { λ r. ⌜ mapped (λ x. (x .0 .now, words (x .1 .now))) r ≡ next name-of (words (now (text .entry))) ⌝ }
+/// `start SIDE STATE`
+fn start(text: &[u8]) -> Option<Statement<'_>>
+    ensures { λ r. ⌜ mapped said r ≡ behind Verb.Start (words (now (text .entry))) ⌝ }
 {
-    let (word, rest) = first_word(text)?;
-    if is_name(word) { Some((word, rest)) } else { None }
+    let (side, state) = side_and_state(text)?;
+    Some(Statement::Start { side, state })
 }
 
-/// The first word as the digits of bytes, and what follows it.
-fn next_hex(text: &[u8]) -> Option<(&[u8], &[u8])>
-    ensures { λ r. ⌜ mapped (λ x. (x .0 .now, words (x .1 .now))) r ≡ next hex-of (words (now (text .entry))) ⌝ }
+/// `end SIDE STATE`
+fn end(text: &[u8]) -> Option<Statement<'_>>
+    ensures { λ r. ⌜ mapped said r ≡ behind Verb.End (words (now (text .entry))) ⌝ }
 {
-    let (word, rest) = first_word(text)?;
-    if is_hex(word) { Some((word, rest)) } else { None }
+    let (side, state) = side_and_state(text)?;
+    Some(Statement::End { side, state })
 }
 
-/// Whether the text has no word.
-fn is_end(text: &[u8]) -> bool
-    ensures { λ r. ⌜ r ≡ no-words (words (now (text .entry))) ⌝ }
+/// `arrow SIDE STATE COMMAND STATE`
+fn arrow(text: &[u8]) -> Option<Statement<'_>>
+    ensures { λ r. ⌜ mapped said r ≡ behind Verb.Arrow (words (now (text .entry))) ⌝ }
 {
-    first_word(text).is_none()
+    let (side, from, command, to) = side_and_arrow(text)?;
+    Some(Statement::Arrow { side, from, command, to })
 }
 
-/// One name.
-fn name_alone(text: &[u8]) -> Option<&[u8]>
-    ensures { λ r. ⌜ mapped (λ x. x .now) r ≡ name-alone (words (now (text .entry))) ⌝ }
+/// `lift SIDE STATE COMMAND STATE`
+fn lift(text: &[u8]) -> Option<Statement<'_>>
+    ensures { λ r. ⌜ mapped said r ≡ behind Verb.Lift (words (now (text .entry))) ⌝ }
 {
-    let (name, rest) = next_name(text)?;
-    if is_end(rest) { Some(name) } else { None }
+    let (side, from, command, to) = side_and_arrow(text)?;
+    Some(Statement::Lift { side, from, command, to })
 }
 
-/// A name and the digits of bytes.
-fn name_and_hex(text: &[u8]) -> Option<(&[u8], &[u8])>
-    ensures { λ r. ⌜ mapped (λ x. (x .0 .now, x .1 .now)) r ≡ name-and-hex (words (now (text .entry))) ⌝ }
+/// `write SIDE [BUFFERBYTES]`
+fn write(text: &[u8]) -> Option<Statement<'_>>
+    ensures { λ r. ⌜ mapped said r ≡ behind Verb.Write (words (now (text .entry))) ⌝ }
 {
-    let (name, rest) = next_name(text)?;
-    let (hex, rest) = next_hex(rest)?;
-    if is_end(rest) { Some((name, hex)) } else { None }
-}
-
-/// One side.
-fn side_alone(text: &[u8]) -> Option<u8>
-    ensures { λ r. ⌜ r ≡ side-alone (words (now (text .entry))) ⌝ }
-{
-    let (side, rest) = next_byte(text)?;
-    if is_end(rest) { Some(side) } else { None }
-}
-
-/// A side and a state.
-fn side_and_state(text: &[u8]) -> Option<(u8, u8)>
-    ensures { λ r. ⌜ r ≡ side-and-state (words (now (text .entry))) ⌝ }
-{
-    let (side, rest) = next_byte(text)?;
-    let (state, rest) = next_byte(rest)?;
-    if is_end(rest) { Some((side, state)) } else { None }
-}
-
-/// A side and an arrow: a state, a command and a state.
-fn side_and_arrow(text: &[u8]) -> Option<(u8, u8, u8, u8)>
-    ensures { λ r. ⌜ r ≡ side-and-arrow (words (now (text .entry))) ⌝ }
-{
-    let (side, rest) = next_byte(text)?;
-    let (from, rest) = next_byte(rest)?;
-    let (command, rest) = next_command(rest)?;
-    let (to, rest) = next_byte(rest)?;
-    if is_end(rest) { Some((side, from, command, to)) } else { None }
-}
-
-/// The length of a buffer, which is 8192 where it is left out.
-fn buffer_alone(text: &[u8]) -> Option<usize>
-    ensures { λ r. ⌜ r ≡ buffer-alone (words (now (text .entry))) ⌝ }
-{
-    match first_word(text) {
-        None => Some(8192),
-        Some((word, rest)) => {
-            let buffer = length(word)?;
-            if is_end(rest) { Some(buffer) } else { None }
-        }
-    }
-}
-
-/// A side and the length of a buffer.
-fn side_and_buffer(text: &[u8]) -> Option<(u8, usize)>
-    ensures { λ r. ⌜ r ≡ side-and-buffer (words (now (text .entry))) ⌝ }
-{
-    let (side, rest) = next_byte(text)?;
-    Some((side, buffer_alone(rest)?))
+    let (side, buffer) = side_and_buffer(text)?;
+    Some(Statement::Write { side, buffer })
 }
 
 /// What to show: the plan of a name, or a side.
@@ -168,9 +124,9 @@ fn shown(word: &[u8]) -> Option<Statement<'_>>
     Some(Statement::ShowSide { side: byte(word)? })
 }
 
-/// One name or one side, to show.
-fn shown_alone(text: &[u8]) -> Option<Statement<'_>>
-    ensures { λ r. ⌜ mapped said r ≡ shown-alone (words (now (text .entry))) ⌝ }
+/// `show NAME` or `show SIDE`
+fn show(text: &[u8]) -> Option<Statement<'_>>
+    ensures { λ r. ⌜ mapped said r ≡ behind Verb.Show (words (now (text .entry))) ⌝ }
 {
     let (word, rest) = first_word(text)?;
     let statement = shown(word)?;
@@ -183,32 +139,14 @@ pub fn parse(line: &[u8]) -> Option<Statement<'_>>
 {
     let (word, rest) = first_word(line)?;
     match read_verb(word)? {
-        Verb::Plan => {
-            let (name, hex) = name_and_hex(rest)?;
-            Some(Statement::Plan { name, hex })
-        }
-        Verb::Rewrite => Some(Statement::Rewrite { name: name_alone(rest)? }),
-        Verb::State => Some(Statement::State { side: side_alone(rest)? }),
-        Verb::Start => {
-            let (side, state) = side_and_state(rest)?;
-            Some(Statement::Start { side, state })
-        }
-        Verb::End => {
-            let (side, state) = side_and_state(rest)?;
-            Some(Statement::End { side, state })
-        }
-        Verb::Arrow => {
-            let (side, from, command, to) = side_and_arrow(rest)?;
-            Some(Statement::Arrow { side, from, command, to })
-        }
-        Verb::Lift => {
-            let (side, from, command, to) = side_and_arrow(rest)?;
-            Some(Statement::Lift { side, from, command, to })
-        }
-        Verb::Write => {
-            let (side, buffer) = side_and_buffer(rest)?;
-            Some(Statement::Write { side, buffer })
-        }
-        Verb::Show => shown_alone(rest),
+        Verb::Plan => plan(rest),
+        Verb::Rewrite => rewrite(rest),
+        Verb::State => state(rest),
+        Verb::Start => start(rest),
+        Verb::End => end(rest),
+        Verb::Arrow => arrow(rest),
+        Verb::Lift => lift(rest),
+        Verb::Write => write(rest),
+        Verb::Show => show(rest),
     }
 }

@@ -14,10 +14,10 @@ loop-i-again c =
     let rest : List ℕ = unhexed (drop (c .loop-i .i + 2) (c .args .word .now)) in (
       omega arith,
       ap (λ (l : List ℕ). l ++ rest) (c .in-Continue-push .ensures tt .items)
-      ∙ append-assoc (vec-items (c .loop-i .bytes)) _ rest
-      ∙ ap (λ (x : ℕ). vec-items (c .loop-i .bytes) ++ (x ∷ rest)) (ap₂ (λ (a b : ℕ). 16 * a + b) (c .value .ensures .is) (c .value-in-loop-i .ensures .is))
-      ∙ ap (λ (l : List ℕ). vec-items (c .loop-i .bytes) ++ l) (sym (unhexed-more (c .args .word .now) (c .loop-i .i) (omega arith)))
-      ∙ c .loop-i .inv .1,
+          ∙ append-assoc (vec-items (c .loop-i .bytes)) _ rest
+          ∙ ap (λ (x : ℕ). vec-items (c .loop-i .bytes) ++ (x ∷ rest)) (ap₂ (λ (a b : ℕ). 16 * a + b) (c .value .ensures .is) (c .value-in-loop-i .ensures .is))
+          ∙ ap (λ (l : List ℕ). vec-items (c .loop-i .bytes) ++ l) (sym (unhexed-more (c .args .word .now) (c .loop-i .i) (omega arith)))
+          ∙ c .loop-i .inv .1,
     )
 
 pub returns : need.returns

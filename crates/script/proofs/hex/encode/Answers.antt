@@ -28,6 +28,6 @@ pub returns : need.returns
 returns c = record {
   appended = whole c;
   back = ap (λ (l : List ℕ). unhexed (drop (length (vec-items (c .args .out .now))) l)) (whole c)
-    ∙ ap unhexed (drop-at (vec-items (c .args .out .now)) (hexed (c .args .bytes .now)) _ refl)
-    ∙ unhexed-hexed (c .args .bytes .now) (all-from-getD (λ b. b < 256) (c .args .bytes .now) 0 (λ i h. c .typed .bytes i .fits));
+      ∙ ap unhexed (drop-at (vec-items (c .args .out .now)) (hexed (c .args .bytes .now)) _ refl)
+      ∙ unhexed-hexed (c .args .bytes .now) (all-from-getD (λ b. b < 256) (c .args .bytes .now) 0 (λ i h. c .typed .bytes i .fits));
 }

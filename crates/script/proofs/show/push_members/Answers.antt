@@ -24,13 +24,13 @@ loop-k-again c =
     let was : List ℕ = vec-items (c .loop-k .out) in
     elim (c .if-contains .came) [
       | then-contains·in-Continue-push-next w ↦ (
-          ap vec-items (w .out-is)
-          ∙ join-as (vec-items (c .args .out .now)) was (vec-items (w .push-next .last .out)) (members-text k set) _ (members-text (k + 1) set)
+        ap vec-items (w .out-is)
+            ∙ join-as (vec-items (c .args .out .now)) was (vec-items (w .push-next .last .out)) (members-text k set) _ (members-text (k + 1) set)
             (c .loop-k .inv .0)
             (members-in k set (sym (w .if-contains .ensures tt)))
             (w .in-Continue-push-next .ensures tt ∙ ap (λ (b : Bool). was ++ (cond b [] (32 ∷ []) ++ numeral k)) (c .loop-k .inv .1)),
-          w .first-is ∙ sym (none-in k set (sym (w .if-contains .ensures tt))),
-        )
+        w .first-is ∙ sym (none-in k set (sym (w .if-contains .ensures tt))),
+      )
       | else-contains w ↦
           let same = members-out k set (sym (w .if-contains .ensures tt)) in (
             ap vec-items (w .out-is) ∙ c .loop-k .inv .0 ∙ ap (λ (ns : List ℕ). vec-items (c .args .out .now) ++ spaced (map numeral ns)) (sym same),

@@ -19,6 +19,6 @@ pub returns : need.returns
 returns c =
     let text : List ℕ = take (length (c .args .line .now) - c .blanks .result) (drop (c .blanks .result) (c .args .line .now)) in (
       sym (c .blanks .ensures .same) ∙ ap words (sym (take-rest (c .args .line .now) (c .blanks .result)))
-      ∙ some-word text (c .word-length-end .result) (c .word-length-end .ensures .within) (c .word-length-end .ensures .first) (c .if-end-eq0 .left),
+          ∙ some-word text (c .word-length-end .result) (c .word-length-end .ensures .within) (c .word-length-end .ensures .first) (c .if-end-eq0 .left),
       simp (length-take, length-drop) (omega (arith, simp (length-take, length-drop) at (c .word-length-end .ensures .within))),
     )

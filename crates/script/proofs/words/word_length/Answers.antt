@@ -22,9 +22,9 @@ returns-then-is-blank c =
       within = omega arith;
       first = sym (c .loop-i .inv) ∙ word-at-blank (take (c .loop-i .i) (c .args .line .now)) (c .args .line .now) (c .loop-i .i) (c .loop-i-test .taken) here;
       some = λ h e. ⊎-elim
-        (λ z. absurd (both-ways _ e (subst (λ (k : ℕ). blank (getD (c .args .line .now) k 0) ≡ true) z here)))
-        (λ nz. grind (arith, nz))
-        (cases-eq (c .loop-i .i) 0);
+          (λ z. absurd (both-ways _ e (subst (λ (k : ℕ). blank (getD (c .args .line .now) k 0) ≡ true) z here)))
+          (λ nz. grind (arith, nz))
+          (cases-eq (c .loop-i .i) 0);
     }
 
 pub returns : need.returns
@@ -33,6 +33,6 @@ returns c =
     record {
       within = omega arith;
       first = subst (λ (k : ℕ). words (c .args .line .now) ≡ before (take k (c .args .line .now)) (words (drop k (c .args .line .now)))) all
-        (sym (c .loop-i .inv) ∙ word-at-end (take (c .loop-i .i) (c .args .line .now)) (c .args .line .now) (c .loop-i .i) (c .loop-i-test .left));
+          (sym (c .loop-i .inv) ∙ word-at-end (take (c .loop-i .i) (c .args .line .now)) (c .args .line .now) (c .loop-i .i) (c .loop-i-test .left));
       some = λ h e. h;
     }
