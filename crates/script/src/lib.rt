@@ -11,3 +11,6 @@ pub mod statement;
 mod text;
 mod verb;
 pub mod words;
+
+#[cfg(test)]
+mod tests;
