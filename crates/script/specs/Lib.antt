@@ -1,0 +1,9 @@
+pub mod Words
+pub mod Numbers
+pub mod Hex
+pub mod Arguments
+pub mod Statements
+pub mod Verbs
+pub mod Texts
+pub mod Answers
+pub mod Show

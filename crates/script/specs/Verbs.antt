@@ -1,0 +1,28 @@
+-- The first words of statements.
+use Prim.Native.Nat.{ℕ}
+use mathlib.Core.Bool.{Bool, cond}
+use mathlib.Core.List.{List}
+use Prim.Native.String.{String}
+use lib.Chars.{codes}
+use Rattle.std.specs.declared.option.Option.{Option}
+use Rattle.std.specs.declared.option.Option.the-variants.{Some, None}
+use Rattle.std.specs.shelf.Text.{sameBytes}
+use Rattle.script.specs.declared.verb.Verb.{Verb}
+use Rattle.script.specs.declared.verb.Verb.the-variants.{Plan, Rewrite, State, Start, End, Arrow, Lift, Write, Show}
+
+-- the verb where the word is its text, else what the other verbs give
+abbrev pub spelt : List ℕ → String → Verb → Option Verb → Option Verb
+spelt w text verb others = cond (sameBytes w (codes text)) (Some verb) others
+
+abbrev pub verb-of : List ℕ → Option Verb
+verb-of w =
+    spelt w "plan" Plan
+    (spelt w "rewrite" Rewrite
+    (spelt w "state" State
+    (spelt w "start" Start
+    (spelt w "end" End
+    (spelt w "arrow" Arrow
+    (spelt w "lift" Lift
+    (spelt w "write" Write
+    (spelt w "show" Show
+    None))))))))
