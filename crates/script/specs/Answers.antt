@@ -1,7 +1,6 @@
 -- The words of an answer.
 use Prim.Native.Nat.{ℕ}
 use mathlib.Core.List.{List, [], _∷_, _++_, map}
-use denote.Ref.{now}
 use lib.Chars.{codes}
 use Rattle.plan.specs.declared.refusal.Refusal.{Refusal}
 use Rattle.plan.specs.declared.refusal.Refusal.the-variants.{NoSuchSide, SideFull, NoSuchState, NoSuchCommand, RunBufferShort, NotReflexive, NotTransitive, EndNotKept, ArrowNotMatched, CommandCount, NotCompared, ComparisonFailed, ComparisonFull, OrderLength, EmptyFile, Truncated, UnknownKind, WrongLength, MisplacedHead, OutOfRange, NotAscending, BufferShort}
@@ -56,7 +55,6 @@ file-text (b ∷ bs) = hexed (b ∷ bs)
 abbrev pub answer-text : Answer → List ℕ
 answer-text answer.Done = codes "ok"
 answer-text (answer.Number n) = numeral n
-answer-text (answer.File bytes) = file-text (now bytes)
 answer-text (answer.Refused r) = refusal-text r
 answer-text answer.Malformed = codes "malformed"
 answer-text answer.UnknownPlan = codes "unknown plan"

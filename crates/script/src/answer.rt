@@ -10,15 +10,13 @@ use crate::text::push_text;
 use plan::refusal::Refusal;
 use std::alloc::AllocError;
 
-/// What is answered to a statement.
+/// What is answered to a statement, but for the bytes of a file and a plan that is shown.
 #[derive(Clone, Copy)]
-pub enum Answer<'a> {
+pub enum Answer {
     /// It was done.
     Done,
     /// A number, as that of a new state.
     Number(u8),
-    /// The bytes of a file.
-    File(&'a [u8]),
     /// It was refused, and nothing was changed.
     Refused(Refusal),
     /// The line is no statement.
@@ -96,21 +94,20 @@ fn push_refusal(out: &mut Vec<u8>, refusal: &Refusal) -> Result<(), AllocError>
 }
 
 /// Appends the bytes of a file in hexadecimal, and `-` where there are none.
-fn push_file(out: &mut Vec<u8>, bytes: &[u8]) -> Result<(), AllocError>
+pub fn word_file(out: &mut Vec<u8>, bytes: &[u8]) -> Result<(), AllocError>
     ensures { λ r. ⌜ Appends r (vec-items (now (out .entry))) (vec-items (now (out .exit))) (file-text (now (bytes .entry))) ⌝ }
 {
     if bytes.is_empty() { push_text(out, b"-") } else { encode(out, bytes) }
 }
 
 /// Appends the answer in words.
-pub fn word_answer(out: &mut Vec<u8>, answer: &Answer) -> Result<(), AllocError>
-    ensures { λ r. ⌜ Appends r (vec-items (now (out .entry))) (vec-items (now (out .exit))) (answer-text (now (answer .entry))) ⌝ }
+pub fn word_answer(out: &mut Vec<u8>, answer: Answer) -> Result<(), AllocError>
+    ensures { λ r. ⌜ Appends r (vec-items (now (out .entry))) (vec-items (now (out .exit))) (answer-text answer) ⌝ }
 {
     match answer {
         Answer::Done => push_text(out, b"ok"),
-        Answer::Number(n) => push_number(out, *n as usize),
-        Answer::File(bytes) => push_file(out, bytes),
-        Answer::Refused(refusal) => push_refusal(out, refusal),
+        Answer::Number(n) => push_number(out, n as usize),
+        Answer::Refused(refusal) => push_refusal(out, &refusal),
         Answer::Malformed => push_text(out, b"malformed"),
         Answer::UnknownPlan => push_text(out, b"unknown plan"),
     }

@@ -1,5 +1,6 @@
 use crate::answer::Answer;
 use crate::answer::word_answer;
+use crate::answer::word_file;
 use crate::echo::echo;
 use crate::statement::Statement;
 use crate::statement::parse;
@@ -11,17 +12,24 @@ fn answers_are_worded(rt: LibcRuntime) -> Result<(), Fail> {
     let answers = [
         Answer::Done,
         Answer::Number(10),
-        Answer::File(&[0, 255]),
-        Answer::File(&[]),
         Answer::Refused(Refusal::ArrowNotMatched { p: 2, r: 1, command: 0, target: 3 }),
         Answer::UnknownPlan,
     ];
     let mut out = Vec::new(rt.alloc());
     for answer in answers.iter() {
-        word_answer(&mut out, answer)?;
+        word_answer(&mut out, *answer)?;
         out.push(b'\n')?;
     }
-    let text: &[u8] = b"ok\n10\n00ff\n-\nrefused 9 2 1 0 3 (the first is below the second, but its arrow has no answer there)\nunknown plan\n";
+    let text: &[u8] = b"ok\n10\nrefused 9 2 1 0 3 (the first is below the second, but its arrow has no answer there)\nunknown plan\n";
+    check(out.as_slice() == text)
+}
+
+#[test]
+fn files_are_worded(rt: LibcRuntime) -> Result<(), Fail> {
+    let mut out = Vec::new(rt.alloc());
+    word_file(&mut out, &[0, 255])?;
+    word_file(&mut out, &[])?;
+    let text: &[u8] = b"00ff-";
     check(out.as_slice() == text)
 }
 
