@@ -39,7 +39,7 @@ pub bit-other : (s k : ℕ) → (k ≡ s → ⊥) → 2 ^ s / 2 ^ k % 2 ≡ 0
 bit-other s k ne =
     ⊎-elim (λ e. absurd (ne e))
     (⊎-elim (λ h. let e : suc (s - suc k) + k ≡ s = omega arith in subst (λ (n : ℕ). 2 ^ n / 2 ^ k % 2 ≡ 0) e (bit-under (s - suc k) k))
-      (λ h. bit-past s k h))
+    (λ h. bit-past s k h))
     (cases-order k s)
 
 -- the bits of the complement
@@ -53,7 +53,7 @@ not-shr j k x h =
     let e : 2 ^ j ≡ (2 ^ j - 1 - x / 2 ^ k) + (1 + x / 2 ^ k) = omega arith in
     let m : 2 ^ j * 2 ^ k ≡ ((2 ^ j - 1 - x / 2 ^ k) + (1 + x / 2 ^ k)) * 2 ^ k = ap (λ (n : ℕ). n * 2 ^ k) e in
     let w : 2 ^ (j + k) - 1 - x ≡ (2 ^ j - 1 - x / 2 ^ k) * 2 ^ k + (2 ^ k - 1 - x % 2 ^ k) =
-      omega (arith, m, pow-add 2 j k, add-mul (2 ^ j - 1 - x / 2 ^ k) (1 + x / 2 ^ k) (2 ^ k), add-mul 1 (x / 2 ^ k) (2 ^ k), split x k) in
+    omega (arith, m, pow-add 2 j k, add-mul (2 ^ j - 1 - x / 2 ^ k) (1 + x / 2 ^ k) (2 ^ k), add-mul 1 (x / 2 ^ k) (2 ^ k), split x k) in
     ap (λ (n : ℕ). n / 2 ^ k) w ∙ high (2 ^ j - 1 - x / 2 ^ k) k (omega arith)
 
 pub bit-not : (w k x : ℕ) → k < w → x < 2 ^ w → (2 ^ w - 1 - x) / 2 ^ k % 2 ≡ 1 - x / 2 ^ k % 2
@@ -68,30 +68,30 @@ pub has-along : (a s k : ℕ) → has (bitOr a (2 ^ s)) k ≡ cond (eqb k s) tru
 has-along a s k =
     ⊎-elim
     (λ e.
-      let one : 2 ^ s / 2 ^ k % 2 ≡ 1 = subst (λ (n : ℕ). 2 ^ s / 2 ^ n % 2 ≡ 1) (sym e) (bit-same s) in
-      eq-eqb _ 1 (omega (arith, bit-or a (2 ^ s) k)) ∙ sym (cond-true (eqb k s) true (has a k) (eq-eqb k s e)))
+    let one : 2 ^ s / 2 ^ k % 2 ≡ 1 = subst (λ (n : ℕ). 2 ^ s / 2 ^ n % 2 ≡ 1) (sym e) (bit-same s) in
+    eq-eqb _ 1 (omega (arith, bit-or a (2 ^ s) k)) ∙ sym (cond-true (eqb k s) true (has a k) (eq-eqb k s e)))
     (λ ne.
-      let none : 2 ^ s / 2 ^ k % 2 ≡ 0 = bit-other s k ne in
-      let same : bitOr a (2 ^ s) / 2 ^ k % 2 ≡ a / 2 ^ k % 2 = omega (arith, bit-or a (2 ^ s) k) in
-      ap (λ (n : ℕ). eqb n 1) same ∙ sym (cond-false (eqb k s) true (has a k) (ne-eqb k s ne)))
+    let none : 2 ^ s / 2 ^ k % 2 ≡ 0 = bit-other s k ne in
+    let same : bitOr a (2 ^ s) / 2 ^ k % 2 ≡ a / 2 ^ k % 2 = omega (arith, bit-or a (2 ^ s) k) in
+    ap (λ (n : ℕ). eqb n 1) same ∙ sym (cond-false (eqb k s) true (has a k) (ne-eqb k s ne)))
     (cases-eq k s)
 
 pub has-without : (w a s k : ℕ) → a < 2 ^ w → s < w → has (bitAnd a (2 ^ w - 1 - 2 ^ s)) k ≡ cond (eqb k s) false (has a k)
 has-without w a s k ha hs =
     ⊎-elim
     (λ e.
-      let one : 2 ^ s / 2 ^ k % 2 ≡ 1 = subst (λ (n : ℕ). 2 ^ s / 2 ^ n % 2 ≡ 1) (sym e) (bit-same s) in
-      let none : (2 ^ w - 1 - 2 ^ s) / 2 ^ k % 2 ≡ 0 = omega (arith, bit-not w k (2 ^ s) (omega arith) (pow-lt hs)) in
-      ne-eqb _ 1 (λ z. omega (arith, bit-and a (2 ^ w - 1 - 2 ^ s) k)) ∙ sym (cond-true (eqb k s) false (has a k) (eq-eqb k s e)))
+    let one : 2 ^ s / 2 ^ k % 2 ≡ 1 = subst (λ (n : ℕ). 2 ^ s / 2 ^ n % 2 ≡ 1) (sym e) (bit-same s) in
+    let none : (2 ^ w - 1 - 2 ^ s) / 2 ^ k % 2 ≡ 0 = omega (arith, bit-not w k (2 ^ s) (omega arith) (pow-lt hs)) in
+    ne-eqb _ 1 (λ z. omega (arith, bit-and a (2 ^ w - 1 - 2 ^ s) k)) ∙ sym (cond-true (eqb k s) false (has a k) (eq-eqb k s e)))
     (λ ne.
-      let same : bitAnd a (2 ^ w - 1 - 2 ^ s) / 2 ^ k % 2 ≡ a / 2 ^ k % 2 =
-        ⊎-elim
-        (λ h. omega (arith, bit-and a (2 ^ w - 1 - 2 ^ s) k, bit-not w k (2 ^ s) h (pow-lt hs), bit-other s k ne))
-        (λ h.
-          let z : a / 2 ^ k ≡ 0 = div-eq-of-lt (omega (arith, pow-mono h)) in
-          omega (arith, bit-and a (2 ^ w - 1 - 2 ^ s) k, z))
-        (cases-lt k w) in
-      ap (λ (n : ℕ). eqb n 1) same ∙ sym (cond-false (eqb k s) false (has a k) (ne-eqb k s ne)))
+    let same : bitAnd a (2 ^ w - 1 - 2 ^ s) / 2 ^ k % 2 ≡ a / 2 ^ k % 2 =
+    ⊎-elim
+    (λ h. omega (arith, bit-and a (2 ^ w - 1 - 2 ^ s) k, bit-not w k (2 ^ s) h (pow-lt hs), bit-other s k ne))
+    (λ h.
+    let z : a / 2 ^ k ≡ 0 = div-eq-of-lt (omega (arith, pow-mono h)) in
+    omega (arith, bit-and a (2 ^ w - 1 - 2 ^ s) k, z))
+    (cases-lt k w) in
+    ap (λ (n : ℕ). eqb n 1) same ∙ sym (cond-false (eqb k s) false (has a k) (ne-eqb k s ne)))
     (cases-eq k s)
 
 -- one bit as a test
@@ -102,18 +102,18 @@ pub has-or : (a b k : ℕ) → has (bitOr a b) k ≡ has a k || has b k
 has-or a b k =
     ⊎-elim
     (λ x. let e : has a k ≡ false = ne-eqb (a / 2 ^ k % 2) 1 (λ z. omega arith) in
-      rw e (ap (λ (n : ℕ). eqb n 1) (omega (arith, bit-or a b k, bit-cases (b / 2 ^ k)))))
+    rw e (ap (λ (n : ℕ). eqb n 1) (omega (arith, bit-or a b k, bit-cases (b / 2 ^ k)))))
     (λ x. let e : has a k ≡ true = eq-eqb (a / 2 ^ k % 2) 1 x in
-      rw e (eq-eqb _ 1 (omega (arith, bit-or a b k))))
+    rw e (eq-eqb _ 1 (omega (arith, bit-or a b k))))
     (bit-cases (a / 2 ^ k))
 
 pub has-and : (a b k : ℕ) → has (bitAnd a b) k ≡ has a k && has b k
 has-and a b k =
     ⊎-elim
     (λ x. let e : has a k ≡ false = ne-eqb (a / 2 ^ k % 2) 1 (λ z. omega arith) in
-      rw e (ne-eqb _ 1 (λ z. omega (arith, bit-and a b k))))
+    rw e (ne-eqb _ 1 (λ z. omega (arith, bit-and a b k))))
     (λ x. let e : has a k ≡ true = eq-eqb (a / 2 ^ k % 2) 1 x in
-      rw e (ap (λ (n : ℕ). eqb n 1) (omega (arith, bit-and a b k, bit-cases (b / 2 ^ k)))))
+    rw e (ap (λ (n : ℕ). eqb n 1) (omega (arith, bit-and a b k, bit-cases (b / 2 ^ k)))))
     (bit-cases (a / 2 ^ k))
 
 pub has-zero : (k : ℕ) → has 0 k ≡ false
@@ -157,12 +157,12 @@ trailing-has zero n l h = absurd (omega arith)
 trailing-has (suc w) n l h =
     ⊎-elim
     (λ e.
-      let r = trailing-has w (n / 2) (omega arith) (omega (arith, pow-suc 2 w)) in
-      let t = trailing-even w n e in
-      (omega (arith, r .0), subst (λ (k : ℕ). has n k ≡ true) (sym t) (has-half n (trailingZeros w (n / 2)) ∙ r .1)))
+    let r = trailing-has w (n / 2) (omega arith) (omega (arith, pow-suc 2 w)) in
+    let t = trailing-even w n e in
+    (omega (arith, r .0), subst (λ (k : ℕ). has n k ≡ true) (sym t) (has-half n (trailingZeros w (n / 2)) ∙ r .1)))
     (λ e.
-      let t = trailing-odd w n e in
-      (omega arith, subst (λ (k : ℕ). has n k ≡ true) (sym t) (odd-zero n e)))
+    let t = trailing-odd w n e in
+    (omega arith, subst (λ (k : ℕ). has n k ≡ true) (sym t) (odd-zero n e)))
     (bit-cases n)
 
 pub trailing-low : (w n k : ℕ) → k < trailingZeros w n → has n k ≡ false
@@ -182,35 +182,35 @@ up-low j a k h =
     let d : ℕ = j - suc k in
     let e : suc d + k ≡ j = omega arith in
     let z : a * 2 ^ (suc d + k) / 2 ^ k % 2 ≡ 0 =
-      ap (λ (n : ℕ). a * n / 2 ^ k % 2) (pow-add 2 (suc d) k)
-      ∙ ap (λ (n : ℕ). n / 2 ^ k % 2) (sym (mul-assoc a (2 ^ suc d) (2 ^ k)))
-      ∙ ap (λ (n : ℕ). n % 2) (shl-shr (a * 2 ^ suc d) k)
-      ∙ ap (λ (n : ℕ). a * n % 2) (pow-suc 2 d)
-      ∙ ap (λ (n : ℕ). n % 2) (sym (mul-assoc a (2 ^ d) 2))
-      ∙ twice (a * 2 ^ d) in
+    ap (λ (n : ℕ). a * n / 2 ^ k % 2) (pow-add 2 (suc d) k)
+    ∙ ap (λ (n : ℕ). n / 2 ^ k % 2) (sym (mul-assoc a (2 ^ suc d) (2 ^ k)))
+    ∙ ap (λ (n : ℕ). n % 2) (shl-shr (a * 2 ^ suc d) k)
+    ∙ ap (λ (n : ℕ). a * n % 2) (pow-suc 2 d)
+    ∙ ap (λ (n : ℕ). n % 2) (sym (mul-assoc a (2 ^ d) 2))
+    ∙ twice (a * 2 ^ d) in
     subst (λ (n : ℕ). a * 2 ^ n / 2 ^ k % 2 ≡ 0) e z
 
 pub has-up : (j a k : ℕ) → has (a * 2 ^ j) k ≡ leb j k && has a (k - j)
 has-up j a k =
     ⊎-elim
     (λ h. let z : a * 2 ^ j / 2 ^ k % 2 ≡ 0 = up-low j a k h in
-      rw (lt-leb j k h) (ne-eqb (a * 2 ^ j / 2 ^ k % 2) 1 (λ (q : a * 2 ^ j / 2 ^ k % 2 ≡ 1). omega arith)))
+    rw (lt-leb j k h) (ne-eqb (a * 2 ^ j / 2 ^ k % 2) 1 (λ (q : a * 2 ^ j / 2 ^ k % 2 ≡ 1). omega arith)))
     (λ h.
-      let e : j + (k - j) ≡ k = omega arith in
-      let z : a * 2 ^ j / 2 ^ (j + (k - j)) ≡ a / 2 ^ (k - j) =
-        sym (shr-shr (a * 2 ^ j) j (k - j)) ∙ ap (λ (n : ℕ). n / 2 ^ (k - j)) (shl-shr a j) in
-      let z′ : a * 2 ^ j / 2 ^ k ≡ a / 2 ^ (k - j) = subst (λ (n : ℕ). a * 2 ^ j / 2 ^ n ≡ a / 2 ^ (k - j)) e z in
-      rw (le-leb j k h) (ap (λ (n : ℕ). eqb (n % 2) 1) z′))
+    let e : j + (k - j) ≡ k = omega arith in
+    let z : a * 2 ^ j / 2 ^ (j + (k - j)) ≡ a / 2 ^ (k - j) =
+    sym (shr-shr (a * 2 ^ j) j (k - j)) ∙ ap (λ (n : ℕ). n / 2 ^ (k - j)) (shl-shr a j) in
+    let z′ : a * 2 ^ j / 2 ^ k ≡ a / 2 ^ (k - j) = subst (λ (n : ℕ). a * 2 ^ j / 2 ^ n ≡ a / 2 ^ (k - j)) e z in
+    rw (le-leb j k h) (ap (λ (n : ℕ). eqb (n % 2) 1) z′))
     (cases-lt k j)
 
 pub has-not : (w k x : ℕ) → k < w → x < 2 ^ w → has (2 ^ w - 1 - x) k ≡ not (has x k)
 has-not w k x h hx =
     ⊎-elim
     (λ z. let e : has x k ≡ false = ne-eqb (x / 2 ^ k % 2) 1 (λ q. omega arith) in
-      rw e (eq-eqb ((2 ^ w - 1 - x) / 2 ^ k % 2) 1 (bit-not w k x h hx ∙ omega arith)))
+    rw e (eq-eqb ((2 ^ w - 1 - x) / 2 ^ k % 2) 1 (bit-not w k x h hx ∙ omega arith)))
     (λ z. let e : has x k ≡ true = eq-eqb (x / 2 ^ k % 2) 1 z in
-      let n : (2 ^ w - 1 - x) / 2 ^ k % 2 ≡ 0 = omega (arith, bit-not w k x h hx) in
-      rw e (ne-eqb ((2 ^ w - 1 - x) / 2 ^ k % 2) 1 (λ q. omega arith)))
+    let n : (2 ^ w - 1 - x) / 2 ^ k % 2 ≡ 0 = omega (arith, bit-not w k x h hx) in
+    rw e (ne-eqb ((2 ^ w - 1 - x) / 2 ^ k % 2) 1 (λ q. omega arith)))
     (bit-cases (x / 2 ^ k))
 
 -- the highest element

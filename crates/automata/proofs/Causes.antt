@@ -33,11 +33,22 @@ body-none n b p z (end s h e) l =
     subst (λ w. NoneHolds (causes n (b ∷ p) w)) (sym e)
     (refl, (refl, (refl, (refl, (not-from-true _ (one-field s n h), (above (b ∷ p) (end-record s) (subst (λ w. Below (b ∷ p) (drop 2 w)) e l), tt))))))
 body-none n b p z (arrow s c t hs hc ht e) l =
-    subst (λ w. NoneHolds (causes n (b ∷ p) w)) (sym e)
-    (refl, (refl, (refl, (refl, (
-      not-from-true _ (and-from (ltb s n) (ltb c 26 && (ltb t n && true)) (lt-ltb s n hs) (and-from (ltb c 26) (ltb t n && true) (lt-ltb c 26 hc) (one-field t n ht))),
-      (above (b ∷ p) (arrow-record s c t) (subst (λ w. Below (b ∷ p) (drop 2 w)) e l), tt),
-    )))))
+    subst (λ w. NoneHolds (causes n (b ∷ p) w)) (sym e) (
+      refl,
+      (
+        refl,
+        (
+          refl,
+          (
+            refl,
+            (
+              not-from-true _ (and-from (ltb s n) (ltb c 26 && (ltb t n && true)) (lt-ltb s n hs) (and-from (ltb c 26) (ltb t n && true) (lt-ltb c 26 hc) (one-field t n ht))),
+              (above (b ∷ p) (arrow-record s c t) (subst (λ w. Below (b ∷ p) (drop 2 w)) e l), tt),
+            ),
+          ),
+        ),
+      ),
+    )
 
 pub later-none : (n : ℕ) (p z : List ℕ) → 0 < length p → Body n z → Below p (drop 2 z) → NoneHolds (causes n p z)
 later-none n [] z h b l = absurd (omega arith)

@@ -96,4 +96,3 @@ last-is p w k h e = same-from-push p (take (length w - 1) w) k (getD w (length w
 
 pub not-empty : (p w : List ℕ) (k : ℕ) → length w < 1 → p ++ (k ∷ []) ≡ w → ⊥
 not-empty p w k h e = omega (arith, ap length e, length-append p (k ∷ []))
-

@@ -61,11 +61,14 @@ module _ (n : ℕ) (p f : List ℕ) where
 
       pub first-17 : (kind f < 1) ⊎ (4 < kind f) → First 17
       first-17 o =
-          inr (whole, inl (
-            known-kind
-                ∙ ⊎-elim (λ l. or-left (ltb (kind f) 1) (ltb 4 (kind f)) (lt-ltb (kind f) 1 l)) (λ l. or-right (ltb (kind f) 1) (ltb 4 (kind f)) (lt-ltb 4 (kind f) l)) o,
-            refl,
-          ))
+          inr (
+            whole,
+            inl (
+              known-kind
+                  ∙ ⊎-elim (λ l. or-left (ltb (kind f) 1) (ltb 4 (kind f)) (lt-ltb (kind f) 1 l)) (λ l. or-right (ltb (kind f) 1) (ltb 4 (kind f)) (lt-ltb 4 (kind f) l)) o,
+              refl,
+            ),
+          )
 
       module _ (a : 1 ≤ kind f) (b : kind f ≤ 4) where
         kinded : unknown-kind (piece f) ≡ false

@@ -40,7 +40,11 @@ pub struct Session {
 impl Session {
     /// Two sides without states, and no plans.
     pub fn new(heap: Global) -> Session {
-        Session { programme: Table::new(), rule: Table::new(), plans: Vec::new(heap) }
+        Session {
+            programme: Table::new(),
+            rule: Table::new(),
+            plans: Vec::new(heap),
+        }
     }
 
     /// Works one line through and appends its answer line to `out`, if one is due.
@@ -58,7 +62,12 @@ impl Session {
         Ok(())
     }
 
-    fn perform(&mut self, heap: Global, statement: Statement, out: &mut Vec<u8>) -> Result<(), AllocError> {
+    fn perform(
+        &mut self,
+        heap: Global,
+        statement: Statement,
+        out: &mut Vec<u8>,
+    ) -> Result<(), AllocError> {
         match statement {
             Statement::Plan { name, hex } => self.bind(heap, name, hex, out),
             Statement::Rewrite { name } => self.rewrite(heap, name, out),
@@ -68,8 +77,18 @@ impl Session {
             },
             Statement::Start { side, state } => word_outcome(out, self.mark_start(side, state)),
             Statement::End { side, state } => word_outcome(out, self.mark_end(side, state)),
-            Statement::Arrow { side, from, command, to } => word_outcome(out, self.draw_arrow(side, from, command, to)),
-            Statement::Lift { side, from, command, to } => word_outcome(out, self.lift_arrow(side, from, command, to)),
+            Statement::Arrow {
+                side,
+                from,
+                command,
+                to,
+            } => word_outcome(out, self.draw_arrow(side, from, command, to)),
+            Statement::Lift {
+                side,
+                from,
+                command,
+                to,
+            } => word_outcome(out, self.lift_arrow(side, from, command, to)),
             Statement::Write { side, buffer } => self.write_side(heap, side, buffer, out),
             Statement::ShowPlan { name } => self.show_plan(name, out),
             Statement::ShowSide { side } => self.show_side(side, out),
@@ -129,7 +148,13 @@ impl Session {
     }
 
     /// Binds the name to a plan file, if that is accepted; a refused one leaves the former binding.
-    fn bind(&mut self, heap: Global, name: &[u8], hex: &[u8], out: &mut Vec<u8>) -> Result<(), AllocError> {
+    fn bind(
+        &mut self,
+        heap: Global,
+        name: &[u8],
+        hex: &[u8],
+        out: &mut Vec<u8>,
+    ) -> Result<(), AllocError> {
         let file = decode(heap, hex)?;
         if let Err(refusal) = FilePlan::read(file.as_slice()) {
             return word_answer(out, Answer::Refused(refusal));
@@ -161,7 +186,13 @@ impl Session {
     }
 
     /// Answers the side's file, written into a buffer of so many bytes. No plan needs more than the longest file.
-    fn write_side(&self, heap: Global, side: u8, buffer: usize, out: &mut Vec<u8>) -> Result<(), AllocError> {
+    fn write_side(
+        &self,
+        heap: Global,
+        side: u8,
+        buffer: usize,
+        out: &mut Vec<u8>,
+    ) -> Result<(), AllocError> {
         let mut bytes = vec![in heap; 0u8; buffer.min(LONGEST_FILE)]?;
         let written = match side {
             0 => write(&self.programme, bytes.as_mut_slice()),
@@ -199,7 +230,11 @@ fn word_outcome(out: &mut Vec<u8>, outcome: Result<(), Refusal>) -> Result<(), A
 }
 
 /// Words a file of so many bytes at the front of the buffer, or why it was not written.
-fn word_written(out: &mut Vec<u8>, written: Result<usize, Refusal>, buffer: &[u8]) -> Result<(), AllocError> {
+fn word_written(
+    out: &mut Vec<u8>,
+    written: Result<usize, Refusal>,
+    buffer: &[u8],
+) -> Result<(), AllocError> {
     match written {
         Ok(length) => word_file(out, &buffer[0..length.min(buffer.len())]),
         Err(refusal) => word_answer(out, Answer::Refused(refusal)),

@@ -59,6 +59,7 @@ changed f n a e r s c v h hc ev = λ i. record { count = n; starts = a; ends = e
         let b : eqb (i * 26 + j) (s * 26 + c) ≡ false = ne-eqb _ _ ne in
         cond-false _ v _ b ∙ sym (cond-false _ (f (getD r (i * 26 + j) 0)) _ (sym (one-place s c i j hc hj) ∙ b)))
         (cases-eq (i * 26 + j) (s * 26 + c))
+
     same : (i j : ℕ) → cond (ltb j 26) (getD (set r (s * 26 + c) v) (i * 26 + j) 0) 0
         ≡ cond (eqb i s && eqb j c) (f (cond (ltb j 26) (getD r (i * 26 + j) 0) 0)) (cond (ltb j 26) (getD r (i * 26 + j) 0) 0)
     same i j =

@@ -8,9 +8,9 @@ ghost use Rattle.automata.specs.Drawing.{blank, with-state, with-start, with-en
 ghost use Rattle.automata.specs.Runs.{Permits, Included};
 ghost use Rattle.plan.specs.Tables.{drawn};
 ghost use Rattle.plan.specs.Refusals.{report-of};
-use automata::sets;
 use crate::refusal::Refusal;
 use crate::table::Table;
+use automata::sets;
 
 /// No targets for any state and command.
 pub(crate) fn no_arrows() -> [u32; 832]
@@ -26,7 +26,12 @@ impl Table {
         ensures meaning { λ r. ⌜ drawn r ≡ blank ⌝ }
         ensures no_runs { λ r. ⌜ ((w : List ℕ) → Permits (drawn r) w → ⊥) ⌝ }
     {
-        Table { count: 0, starts: 0, ends: 0, arrows: no_arrows() }
+        Table {
+            count: 0,
+            starts: 0,
+            ends: 0,
+            arrows: no_arrows(),
+        }
     }
 
     /// Adds a state and answers its number. Refused (2) where there are 32 already.

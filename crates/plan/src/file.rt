@@ -50,13 +50,15 @@ pub impl<'a> Plan for FilePlan<'a> as PlanOfFile {
     }
 
     fn starts(&self) -> u32 {
-        let front = lookup::front(self.bytes);
-        lookup::collect(&self.bytes[0..front], &[3, 0, 2, 0], lookup::count_of(self.bytes))
+        let count = lookup::count_of(self.bytes);
+        let front = &self.bytes[0..lookup::front(self.bytes)];
+        lookup::collect(front, &[3, 0, 2, 0], count)
     }
 
     fn ends(&self) -> u32 {
-        let front = lookup::front(self.bytes);
-        lookup::collect(&self.bytes[0..front], &[3, 0, 3, 0], lookup::count_of(self.bytes))
+        let count = lookup::count_of(self.bytes);
+        let front = &self.bytes[0..lookup::front(self.bytes)];
+        lookup::collect(front, &[3, 0, 3, 0], count)
     }
 
     fn targets(&self, state: u8, command: u8) -> u32 {
@@ -67,6 +69,10 @@ pub impl<'a> Plan for FilePlan<'a> as PlanOfFile {
         if command >= 26 {
             return 0;
         }
-        lookup::collect(lookup::arrows_of(self.bytes, state, command), &[5, 0, 4, 0, state, command], count)
+        lookup::collect(
+            lookup::arrows_of(self.bytes, state, command),
+            &[5, 0, 4, 0, state, command],
+            count,
+        )
     }
 }

@@ -68,7 +68,12 @@ fn size(kind: usize) -> usize
 
 /// Checks the record at the head of `rest`, which stands at offset `place` of a file of `count` states, behind a record
 /// whose kind and body are `before` (nothing where it is the first). Answers its size in bytes, or its first fault.
-pub(crate) fn check_record(count: u8, before: &[u8], rest: &[u8], place: usize) -> Result<usize, Refusal>
+pub(crate) fn check_record(
+    count: u8,
+    before: &[u8],
+    rest: &[u8],
+    place: usize,
+) -> Result<usize, Refusal>
     ensures { λ r. ⌜ Cases r (λ n. (n ≡ length (piece (now (rest .entry)))) × (n ≤ length (now (rest .entry))) × (4 < n) × NoneHolds (causes count (now (before .entry)) (piece (now (rest .entry))))) (λ e. (values-of e ≡ place ∷ []) × FirstHolds (number-of e) (causes count (now (before .entry)) (piece (now (rest .entry))))) ⌝ }
 {
     if let [l0, l1, k0, k1, tail @ ..] = rest {

@@ -19,13 +19,27 @@ pub enum Refusal {
     /// 5: the run buffer is shorter than the usable slots.
     RunBufferShort,
     /// 6: `p` is not below itself.
-    NotReflexive { p: u8 },
+    NotReflexive {
+        p: u8,
+    },
     /// 7: `p` is below `q` and `q` below `r`, but `p` is not below `r`.
-    NotTransitive { p: u8, q: u8, r: u8 },
+    NotTransitive {
+        p: u8,
+        q: u8,
+        r: u8,
+    },
     /// 8: `p` is below `r` and an end, but `r` is no end.
-    EndNotKept { p: u8, r: u8 },
+    EndNotKept {
+        p: u8,
+        r: u8,
+    },
     /// 9: `p` is below `r`, and its arrow under `command` to `target` has no answering arrow of `r`.
-    ArrowNotMatched { p: u8, r: u8, command: u8, target: u8 },
+    ArrowNotMatched {
+        p: u8,
+        r: u8,
+        command: u8,
+        target: u8,
+    },
     /// 10: the number of commands is not 1 to 26.
     CommandCount,
     /// 11: release, and nothing was compared since the last drawing.
@@ -39,19 +53,33 @@ pub enum Refusal {
     /// 15: the file is empty; its place is 0.
     EmptyFile,
     /// 16: the file ends inside the record.
-    Truncated { place: usize },
+    Truncated {
+        place: usize,
+    },
     /// 17: the record's kind is not 1 to 4.
-    UnknownKind { place: usize },
+    UnknownKind {
+        place: usize,
+    },
     /// 18: the record's length is not that of its kind.
-    WrongLength { place: usize },
+    WrongLength {
+        place: usize,
+    },
     /// 19: the first record is no head, or a later one is.
-    MisplacedHead { place: usize },
+    MisplacedHead {
+        place: usize,
+    },
     /// 20: the count is above 32, or there is no such state or command.
-    OutOfRange { place: usize },
+    OutOfRange {
+        place: usize,
+    },
     /// 21: the record is not above the one before it.
-    NotAscending { place: usize },
+    NotAscending {
+        place: usize,
+    },
     /// 22: the buffer is shorter than the file, which needs this many bytes.
-    BufferShort { needed: usize },
+    BufferShort {
+        needed: usize,
+    },
 }
 
 impl Refusal {
@@ -93,7 +121,15 @@ impl Refusal {
             Refusal::NotReflexive { p } => ([p as usize, 0, 0, 0], 1),
             Refusal::NotTransitive { p, q, r } => ([p as usize, q as usize, r as usize, 0], 3),
             Refusal::EndNotKept { p, r } => ([p as usize, r as usize, 0, 0], 2),
-            Refusal::ArrowNotMatched { p, r, command, target } => ([p as usize, r as usize, command as usize, target as usize], 4),
+            Refusal::ArrowNotMatched {
+                p,
+                r,
+                command,
+                target,
+            } => (
+                [p as usize, r as usize, command as usize, target as usize],
+                4,
+            ),
             Refusal::EmptyFile => ([0, 0, 0, 0], 1),
             Refusal::Truncated { place } => ([place, 0, 0, 0], 1),
             Refusal::UnknownKind { place } => ([place, 0, 0, 0], 1),

@@ -3,8 +3,8 @@ ghost use mathlib.Core.Bool.{true};
 ghost use Prim.Native.Nat.{_^_, _<_};
 ghost use Rattle.automata.specs.Runs.{Permits};
 ghost use Rattle.automata.specs.Steps.{onward as led-on};
-use automata::sets;
 use crate::interface::Plan;
+use automata::sets;
 
 /// The states to which arrows under `command` lead from the states of the set.
 pub fn onward<P: Plan>(plan: &P, set: u32, command: u8) -> u32

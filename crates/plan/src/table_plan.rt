@@ -51,6 +51,11 @@ impl Table {
         ensures { λ r. ⌜ drawn r ≡ P·Plan .meaning (now (plan .entry)) ⌝ }
     {
         let count = plan.count();
-        Table { count, starts: plan.starts(), ends: plan.ends(), arrows: all_targets(plan, count) }
+        Table {
+            count,
+            starts: plan.starts(),
+            ends: plan.ends(),
+            arrows: all_targets(plan, count),
+        }
     }
 }

@@ -8,11 +8,11 @@ ghost use Rattle.automata.specs.Files.{file, joined, each, when, arrows-from, a
 ghost use Rattle.plan.specs.Answers.{Written, TooShort};
 ghost use Rattle.plan.specs.Buffers.{Put};
 ghost use Rattle.plan.specs.Tables.{drawn};
-use automata::sets;
 use crate::interface::Plan;
 use crate::refusal::Refusal;
 use crate::table::Table;
 use crate::table_plan::PlanOfTable;
+use automata::sets;
 
 /// Puts bytes into the buffer at an offset, if they fit, and answers where they end.
 fn put(buffer: &mut [u8], at: usize, part: &[u8]) -> usize
@@ -58,7 +58,13 @@ fn put_arrows_from(table: &Table, s: u8, buffer: &mut [u8], at: usize) -> usize
 {
     let mut end = at;
     for c in 0..26u8 {
-        end = put_members(table.count, table.targets(s, c), &[5, 0, 4, 0, s, c], buffer, end);
+        end = put_members(
+            table.count,
+            table.targets(s, c),
+            &[5, 0, 4, 0, s, c],
+            buffer,
+            end,
+        );
     }
     end
 }

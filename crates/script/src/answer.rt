@@ -36,9 +36,12 @@ fn reason(refusal: &Refusal) -> &'static [u8]
         Refusal::NoSuchCommand => b"a command is at most 25",
         Refusal::RunBufferShort => b"the run buffer is shorter than the usable slots",
         Refusal::NotReflexive { .. } => b"this state is not below itself",
-        Refusal::NotTransitive { .. } => b"the first is below the second and that below the third, but not the first below the third",
-        Refusal::EndNotKept { .. } => b"the first is below the second and an end, but the second is no end",
-        Refusal::ArrowNotMatched { .. } => b"the first is below the second, but its arrow has no answer there",
+        Refusal::NotTransitive { .. } =>
+            b"the first is below the second and that below the third, but not the first below the third",
+        Refusal::EndNotKept { .. } =>
+            b"the first is below the second and an end, but the second is no end",
+        Refusal::ArrowNotMatched { .. } =>
+            b"the first is below the second, but its arrow has no answer there",
         Refusal::CommandCount => b"the number of commands is not 1 to 26",
         Refusal::NotCompared => b"nothing was compared since the last drawing",
         Refusal::ComparisonFailed => b"the last comparison failed",
@@ -97,7 +100,11 @@ fn push_refusal(out: &mut Vec<u8>, refusal: &Refusal) -> Result<(), AllocError>
 pub fn word_file(out: &mut Vec<u8>, bytes: &[u8]) -> Result<(), AllocError>
     ensures { λ r. ⌜ Appends r (vec-items (now (out .entry))) (vec-items (now (out .exit))) (file-text (now (bytes .entry))) ⌝ }
 {
-    if bytes.is_empty() { push_text(out, b"-") } else { encode(out, bytes) }
+    if bytes.is_empty() {
+        push_text(out, b"-")
+    } else {
+        encode(out, bytes)
+    }
 }
 
 /// Appends the answer in words.

@@ -37,7 +37,11 @@ fn next_name(text: &[u8]) -> Option<(&[u8], &[u8])>
     ensures { λ r. ⌜ mapped (λ x. (x .0 .now, words (x .1 .now))) r ≡ next name-of (words (now (text .entry))) ⌝ }
 {
     let (word, rest) = first_word(text)?;
-    if is_name(word) { Some((word, rest)) } else { None }
+    if is_name(word) {
+        Some((word, rest))
+    } else {
+        None
+    }
 }
 
 /// The first word as the digits of bytes, and what follows it.
@@ -45,7 +49,11 @@ fn next_hex(text: &[u8]) -> Option<(&[u8], &[u8])>
     ensures { λ r. ⌜ mapped (λ x. (x .0 .now, words (x .1 .now))) r ≡ next hex-of (words (now (text .entry))) ⌝ }
 {
     let (word, rest) = first_word(text)?;
-    if is_hex(word) { Some((word, rest)) } else { None }
+    if is_hex(word) {
+        Some((word, rest))
+    } else {
+        None
+    }
 }
 
 /// Whether the text has no word.
@@ -69,7 +77,11 @@ pub fn name_and_hex(text: &[u8]) -> Option<(&[u8], &[u8])>
 {
     let (name, rest) = next_name(text)?;
     let (hex, rest) = next_hex(rest)?;
-    if is_end(rest) { Some((name, hex)) } else { None }
+    if is_end(rest) {
+        Some((name, hex))
+    } else {
+        None
+    }
 }
 
 /// One side.
@@ -86,7 +98,11 @@ pub fn side_and_state(text: &[u8]) -> Option<(u8, u8)>
 {
     let (side, rest) = next_byte(text)?;
     let (state, rest) = next_byte(rest)?;
-    if is_end(rest) { Some((side, state)) } else { None }
+    if is_end(rest) {
+        Some((side, state))
+    } else {
+        None
+    }
 }
 
 /// A side and an arrow: a state, a command and a state.
@@ -97,7 +113,11 @@ pub fn side_and_arrow(text: &[u8]) -> Option<(u8, u8, u8, u8)>
     let (from, rest) = next_byte(rest)?;
     let (command, rest) = next_command(rest)?;
     let (to, rest) = next_byte(rest)?;
-    if is_end(rest) { Some((side, from, command, to)) } else { None }
+    if is_end(rest) {
+        Some((side, from, command, to))
+    } else {
+        None
+    }
 }
 
 /// The length of a buffer, which is 8192 where it is left out.

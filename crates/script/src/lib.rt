@@ -11,6 +11,3 @@ pub mod statement;
 mod text;
 mod verb;
 pub mod words;
-
-#[cfg(test)]
-mod tests;

@@ -5,10 +5,10 @@ ghost use Prim.Native.Nat.{ℕ, _<_};
 ghost use Rattle.std.specs.Of.Vec.{vec-items};
 ghost use Rattle.script.specs.Texts.{Appends, numeral, spaced};
 ghost use Rattle.script.specs.Show.{members, set-text, each, arrows-text, state-text, named-set, head-text, plan-text};
-use automata::sets::contains;
 use crate::text::push_byte;
 use crate::text::push_number;
 use crate::text::push_text;
+use automata::sets::contains;
 use plan::interface::Plan;
 use std::alloc::AllocError;
 

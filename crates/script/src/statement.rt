@@ -19,25 +19,55 @@ use crate::words::first_word;
 #[derive(Clone, Copy)]
 pub enum Statement<'a> {
     /// A plan under a name, as the file of bytes that the word spells.
-    Plan { name: &'a [u8], hex: &'a [u8] },
+    Plan {
+        name: &'a [u8],
+        hex: &'a [u8],
+    },
     /// The named plan, written again.
-    Rewrite { name: &'a [u8] },
+    Rewrite {
+        name: &'a [u8],
+    },
     /// A new state of the side.
-    State { side: u8 },
+    State {
+        side: u8,
+    },
     /// The state is a start.
-    Start { side: u8, state: u8 },
+    Start {
+        side: u8,
+        state: u8,
+    },
     /// The state is an end.
-    End { side: u8, state: u8 },
+    End {
+        side: u8,
+        state: u8,
+    },
     /// A new arrow.
-    Arrow { side: u8, from: u8, command: u8, to: u8 },
+    Arrow {
+        side: u8,
+        from: u8,
+        command: u8,
+        to: u8,
+    },
     /// An arrow less.
-    Lift { side: u8, from: u8, command: u8, to: u8 },
+    Lift {
+        side: u8,
+        from: u8,
+        command: u8,
+        to: u8,
+    },
     /// The side as a file, in a buffer of so many bytes.
-    Write { side: u8, buffer: usize },
+    Write {
+        side: u8,
+        buffer: usize,
+    },
     /// The named plan, for a person to read.
-    ShowPlan { name: &'a [u8] },
+    ShowPlan {
+        name: &'a [u8],
+    },
     /// The side, for a person to read.
-    ShowSide { side: u8 },
+    ShowSide {
+        side: u8,
+    },
 }
 
 /// Whether the line is passed over, with no answer: it has no word, or its first word begins with `#`.
@@ -95,7 +125,12 @@ fn arrow(text: &[u8]) -> Option<Statement<'_>>
     ensures { λ r. ⌜ mapped said r ≡ behind Verb.Arrow (words (now (text .entry))) ⌝ }
 {
     let (side, from, command, to) = side_and_arrow(text)?;
-    Some(Statement::Arrow { side, from, command, to })
+    Some(Statement::Arrow {
+        side,
+        from,
+        command,
+        to,
+    })
 }
 
 /// `lift SIDE STATE COMMAND STATE`
@@ -103,7 +138,12 @@ fn lift(text: &[u8]) -> Option<Statement<'_>>
     ensures { λ r. ⌜ mapped said r ≡ behind Verb.Lift (words (now (text .entry))) ⌝ }
 {
     let (side, from, command, to) = side_and_arrow(text)?;
-    Some(Statement::Lift { side, from, command, to })
+    Some(Statement::Lift {
+        side,
+        from,
+        command,
+        to,
+    })
 }
 
 /// `write SIDE [BUFFERBYTES]`

@@ -1,10 +1,10 @@
-use crate::answer::Answer;
-use crate::answer::word_answer;
-use crate::answer::word_file;
-use crate::echo::echo;
-use crate::statement::Statement;
-use crate::statement::parse;
 use plan::refusal::Refusal;
+use script::answer::Answer;
+use script::answer::word_answer;
+use script::answer::word_file;
+use script::echo::echo;
+use script::statement::Statement;
+use script::statement::parse;
 use std::test::*;
 
 #[test]
@@ -12,7 +12,12 @@ fn answers_are_worded(rt: LibcRuntime) -> Result<(), Fail> {
     let answers = [
         Answer::Done,
         Answer::Number(10),
-        Answer::Refused(Refusal::ArrowNotMatched { p: 2, r: 1, command: 0, target: 3 }),
+        Answer::Refused(Refusal::ArrowNotMatched {
+            p: 2,
+            r: 1,
+            command: 0,
+            target: 3,
+        }),
         Answer::UnknownPlan,
     ];
     let mut out = Vec::new(rt.alloc());
@@ -20,7 +25,8 @@ fn answers_are_worded(rt: LibcRuntime) -> Result<(), Fail> {
         word_answer(&mut out, *answer)?;
         out.push(b'\n')?;
     }
-    let text: &[u8] = b"ok\n10\nrefused 9 2 1 0 3 (the first is below the second, but its arrow has no answer there)\nunknown plan\n";
+    let text: &[u8] =
+        b"ok\n10\nrefused 9 2 1 0 3 (the first is below the second, but its arrow has no answer there)\nunknown plan\n";
     check(out.as_slice() == text)
 }
 
@@ -44,8 +50,22 @@ fn statements_are_echoed(rt: LibcRuntime) -> Result<(), Fail> {
 
 #[test]
 fn statements_are_parsed() -> Result<(), Fail> {
-    check(matches!(parse(b"write 1"), Some(Statement::Write { side: 1, buffer: 8192 })))?;
-    check(matches!(parse(b"lift 0 3 z 004"), Some(Statement::Lift { side: 0, from: 3, command: 25, to: 4 })))?;
+    check(matches!(
+        parse(b"write 1"),
+        Some(Statement::Write {
+            side: 1,
+            buffer: 8192
+        })
+    ))?;
+    check(matches!(
+        parse(b"lift 0 3 z 004"),
+        Some(Statement::Lift {
+            side: 0,
+            from: 3,
+            command: 25,
+            to: 4
+        })
+    ))?;
     check(matches!(parse(b"show 256"), None))?;
     check(matches!(parse(b"plan p 0"), None))
 }
