@@ -31,7 +31,7 @@ struct Binding {
 
 /// What a script has drawn and bound so far: the two sides, the programme and the rule, and the plans by name.
 #[derive(Drop)]
-pub struct Session {
+pub(crate) struct Session {
     programme: Table,
     rule: Table,
     plans: Vec<Binding>,
@@ -39,7 +39,7 @@ pub struct Session {
 
 impl Session {
     /// Two sides without states, and no plans.
-    pub fn new(heap: Global) -> Session {
+    pub(crate) fn new(heap: Global) -> Session {
         Session {
             programme: Table::new(),
             rule: Table::new(),
@@ -48,7 +48,12 @@ impl Session {
     }
 
     /// Works one line through and appends its answer line to `out`, if one is due.
-    pub fn work(&mut self, heap: Global, line: &[u8], out: &mut Vec<u8>) -> Result<(), AllocError> {
+    pub(crate) fn work(
+        &mut self,
+        heap: Global,
+        line: &[u8],
+        out: &mut Vec<u8>,
+    ) -> Result<(), AllocError> {
         if is_passed_over(line) {
             return Ok(());
         }

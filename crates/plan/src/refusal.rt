@@ -82,6 +82,9 @@ pub enum Refusal {
     },
 }
 
+/// Up to four values, and how many there are.
+pub type Values = ([usize; 4], usize);
+
 impl Refusal {
     /// The number that stands for the case, 1 to 22.
     pub fn number(&self) -> u8
@@ -114,7 +117,7 @@ impl Refusal {
     }
 
     /// The values that the case brings, in the order in which they are reported, and how many there are.
-    pub fn values(&self) -> ([usize; 4], usize)
+    pub fn values(&self) -> Values
         ensures { λ r. ⌜ take (r .1) (r .0) ≡ values-of (now (self .entry)) ⌝ }
     {
         match *self {

@@ -10,7 +10,7 @@ use crate::numbers::length;
 use crate::words::first_word;
 
 /// Whether the word is a name: it begins with a letter.
-pub fn is_name(word: &[u8]) -> bool
+pub(crate) fn is_name(word: &[u8]) -> bool
     ensures { λ r. ⌜ r ≡ name-word (now (word .entry)) ⌝ }
 {
     word.len() > 0 && matches!(word[0], b'a'..=b'z' | b'A'..=b'Z')
@@ -57,14 +57,14 @@ fn next_hex(text: &[u8]) -> Option<(&[u8], &[u8])>
 }
 
 /// Whether the text has no word.
-pub fn is_end(text: &[u8]) -> bool
+pub(crate) fn is_end(text: &[u8]) -> bool
     ensures { λ r. ⌜ r ≡ no-words (words (now (text .entry))) ⌝ }
 {
     first_word(text).is_none()
 }
 
 /// One name.
-pub fn name_alone(text: &[u8]) -> Option<&[u8]>
+pub(crate) fn name_alone(text: &[u8]) -> Option<&[u8]>
     ensures { λ r. ⌜ mapped (λ x. x .now) r ≡ name-alone (words (now (text .entry))) ⌝ }
 {
     let (name, rest) = next_name(text)?;
@@ -72,7 +72,7 @@ pub fn name_alone(text: &[u8]) -> Option<&[u8]>
 }
 
 /// A name and the digits of bytes.
-pub fn name_and_hex(text: &[u8]) -> Option<(&[u8], &[u8])>
+pub(crate) fn name_and_hex(text: &[u8]) -> Option<(&[u8], &[u8])>
     ensures { λ r. ⌜ mapped (λ x. (x .0 .now, x .1 .now)) r ≡ name-and-hex (words (now (text .entry))) ⌝ }
 {
     let (name, rest) = next_name(text)?;
@@ -85,7 +85,7 @@ pub fn name_and_hex(text: &[u8]) -> Option<(&[u8], &[u8])>
 }
 
 /// One side.
-pub fn side_alone(text: &[u8]) -> Option<u8>
+pub(crate) fn side_alone(text: &[u8]) -> Option<u8>
     ensures { λ r. ⌜ r ≡ side-alone (words (now (text .entry))) ⌝ }
 {
     let (side, rest) = next_byte(text)?;
@@ -93,7 +93,7 @@ pub fn side_alone(text: &[u8]) -> Option<u8>
 }
 
 /// A side and a state.
-pub fn side_and_state(text: &[u8]) -> Option<(u8, u8)>
+pub(crate) fn side_and_state(text: &[u8]) -> Option<(u8, u8)>
     ensures { λ r. ⌜ r ≡ side-and-state (words (now (text .entry))) ⌝ }
 {
     let (side, rest) = next_byte(text)?;
@@ -106,7 +106,7 @@ pub fn side_and_state(text: &[u8]) -> Option<(u8, u8)>
 }
 
 /// A side and an arrow: a state, a command and a state.
-pub fn side_and_arrow(text: &[u8]) -> Option<(u8, u8, u8, u8)>
+pub(crate) fn side_and_arrow(text: &[u8]) -> Option<(u8, u8, u8, u8)>
     ensures { λ r. ⌜ r ≡ side-and-arrow (words (now (text .entry))) ⌝ }
 {
     let (side, rest) = next_byte(text)?;
@@ -134,7 +134,7 @@ fn buffer_alone(text: &[u8]) -> Option<usize>
 }
 
 /// A side and the length of a buffer.
-pub fn side_and_buffer(text: &[u8]) -> Option<(u8, usize)>
+pub(crate) fn side_and_buffer(text: &[u8]) -> Option<(u8, usize)>
     ensures { λ r. ⌜ r ≡ side-and-buffer (words (now (text .entry))) ⌝ }
 {
     let (side, rest) = next_byte(text)?;

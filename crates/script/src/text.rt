@@ -8,7 +8,7 @@ use crate::words::first_word;
 use std::alloc::AllocError;
 
 /// Appends one byte.
-pub fn push_byte(out: &mut Vec<u8>, b: u8) -> Result<(), AllocError>
+pub(crate) fn push_byte(out: &mut Vec<u8>, b: u8) -> Result<(), AllocError>
     ensures { λ r. ⌜ Appends r (vec-items (now (out .entry))) (vec-items (now (out .exit))) (b ∷ []) ⌝ }
 {
     out.push(b)?;
@@ -16,14 +16,14 @@ pub fn push_byte(out: &mut Vec<u8>, b: u8) -> Result<(), AllocError>
 }
 
 /// Appends the text.
-pub fn push_text(out: &mut Vec<u8>, text: &[u8]) -> Result<(), AllocError>
+pub(crate) fn push_text(out: &mut Vec<u8>, text: &[u8]) -> Result<(), AllocError>
     ensures { λ r. ⌜ Appends r (vec-items (now (out .entry))) (vec-items (now (out .exit))) (now (text .entry)) ⌝ }
 {
     out.extend_from_slice(text)
 }
 
 /// Appends the number in decimal digits.
-pub fn push_number(out: &mut Vec<u8>, n: usize) -> Result<(), AllocError>
+pub(crate) fn push_number(out: &mut Vec<u8>, n: usize) -> Result<(), AllocError>
     ensures { λ r. ⌜ Appends r (vec-items (now (out .entry))) (vec-items (now (out .exit))) (numeral n) ⌝ }
 {
     if n < 10 {
@@ -34,7 +34,7 @@ pub fn push_number(out: &mut Vec<u8>, n: usize) -> Result<(), AllocError>
 }
 
 /// Appends the first word of the line behind a space, if it has one.
-pub fn push_first_word(out: &mut Vec<u8>, line: &[u8]) -> Result<(), AllocError>
+pub(crate) fn push_first_word(out: &mut Vec<u8>, line: &[u8]) -> Result<(), AllocError>
     ensures { λ r. ⌜ Appends r (vec-items (now (out .entry))) (vec-items (now (out .exit))) (behind-spaces (take 1 (words (now (line .entry))))) ⌝ }
 {
     if let Some((word, _)) = first_word(line) {
@@ -45,7 +45,7 @@ pub fn push_first_word(out: &mut Vec<u8>, line: &[u8]) -> Result<(), AllocError>
 }
 
 /// Appends the words of the line, each behind a space.
-pub fn push_words(out: &mut Vec<u8>, line: &[u8]) -> Result<(), AllocError>
+pub(crate) fn push_words(out: &mut Vec<u8>, line: &[u8]) -> Result<(), AllocError>
     ensures { λ r. ⌜ Appends r (vec-items (now (out .entry))) (vec-items (now (out .exit))) (behind-spaces (words (now (line .entry)))) ⌝ }
 {
     let mut left = line;

@@ -4,7 +4,7 @@ use crate::words::is_text;
 
 /// The first word of a statement.
 #[derive(Clone, Copy)]
-pub enum Verb {
+pub(crate) enum Verb {
     Plan,
     Rewrite,
     State,
@@ -17,7 +17,7 @@ pub enum Verb {
 }
 
 /// The verb that the word is, if it is one.
-pub fn read_verb(word: &[u8]) -> Option<Verb>
+pub(crate) fn read_verb(word: &[u8]) -> Option<Verb>
     ensures { λ r. ⌜ r ≡ verb-of (now (word .entry)) ⌝ }
 {
     if is_text(word, b"plan") {
