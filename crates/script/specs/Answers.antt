@@ -52,6 +52,7 @@ abbrev pub file-text : List ℕ → List ℕ
 file-text [] = codes "-"
 file-text (b ∷ bs) = hexed (b ∷ bs)
 
+-- an answer in words
 abbrev pub answer-text : Answer → List ℕ
 answer-text answer.Done = codes "ok"
 answer-text (answer.Number n) = numeral n

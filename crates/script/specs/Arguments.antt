@@ -40,6 +40,7 @@ abbrev pub next : {A : Type 0} → (List ℕ → Option A) → List (List ℕ) �
 next kind [] = None
 next kind (w ∷ ws) = mapped (λ a. (a, ws)) (kind w)
 
+-- no words are left
 abbrev pub no-words : List (List ℕ) → Bool
 no-words [] = true
 no-words (w ∷ ws) = false
@@ -70,10 +71,11 @@ side-and-arrow ws =
     given (next byte-of ws) (λ a. given (next byte-of (a .1)) (λ b. given (next command-number (b .1)) (λ c. given (next byte-of (c .1)) (λ d.
     last (a .0, b .0, c .0, d .0) (d .1)))))
 
--- SIDE [BUFFERBYTES], which is 8192 where it is left out
+-- [BUFFERBYTES], which is 8192 where it is left out
 abbrev pub buffer-alone : List (List ℕ) → Option ℕ
 buffer-alone [] = Some 8192
 buffer-alone (w ∷ ws) = given (next length-of (w ∷ ws)) (λ a. last (a .0) (a .1))
 
+-- SIDE [BUFFERBYTES]
 abbrev pub side-and-buffer : List (List ℕ) → Option (ℕ × ℕ)
 side-and-buffer ws = given (next byte-of ws) (λ a. mapped (λ n. (a .0, n)) (buffer-alone (a .1)))

@@ -14,6 +14,7 @@ use Rattle.script.specs.declared.verb.Verb.the-variants.{Plan, Rewrite, State,
 abbrev pub spelt : List ℕ → String → Verb → Option Verb → Option Verb
 spelt w text verb others = cond (sameBytes w (codes text)) (Some verb) others
 
+-- the verb that a word is, if it is one
 abbrev pub verb-of : List ℕ → Option Verb
 verb-of w =
     spelt w "plan" Plan
