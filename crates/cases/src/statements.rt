@@ -1,11 +1,11 @@
 use plan::refusal::Refusal;
-use script::answer::Answer;
-use script::answer::word_answer;
-use script::answer::word_file;
-use script::echo::echo;
 use script::statement::Statement;
 use script::statement::parse;
 use std::test::*;
+use wording::answer::Answer;
+use wording::answer::word_answer;
+use wording::answer::word_file;
+use wording::echo::echo;
 
 #[test]
 fn answers_are_worded(rt: LibcRuntime) -> Result<(), Fail> {

@@ -7,17 +7,17 @@ use plan::refusal::Refusal;
 use plan::table::Table;
 use plan::table_plan::PlanOfTable;
 use plan::writer::write;
-use script::answer::Answer;
-use script::answer::word_answer;
-use script::answer::word_file;
-use script::echo::echo;
 use script::hex::decode;
-use script::show::show;
 use script::statement::Statement;
 use script::statement::is_passed_over;
 use script::statement::parse;
 use std::alloc::AllocError;
 use std::alloc::Global;
+use wording::answer::Answer;
+use wording::answer::word_answer;
+use wording::answer::word_file;
+use wording::echo::echo;
+use wording::show::show;
 
 /// The length of the longest file of a plan: a head, 32 starts, 32 ends and 32 * 26 * 32 arrows.
 const LONGEST_FILE: usize = 186_693;

@@ -4,6 +4,3 @@ pub mod Hex
 pub mod Arguments
 pub mod Statements
 pub mod Verbs
-pub mod Texts
-pub mod Answers
-pub mod Show

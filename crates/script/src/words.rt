@@ -8,7 +8,7 @@ ghost use Rattle.std.specs.shelf.Text.{sameBytes};
 ghost use Rattle.script.specs.Words.{blank, before, words};
 
 /// Whether the word is just the text.
-pub(crate) fn is_text(word: &[u8], text: &[u8]) -> bool
+pub fn is_text(word: &[u8], text: &[u8]) -> bool
     ensures { λ r. ⌜ r ≡ sameBytes (now (word .entry)) (now (text .entry)) ⌝ }
 {
     word == text
