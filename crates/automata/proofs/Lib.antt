@@ -15,3 +15,4 @@ pub mod Fronts
 pub mod Views
 pub mod Marks
 pub mod Steps
+pub mod Arrays

@@ -9,30 +9,19 @@ use lib.Bits.{bitOr, bitAnd, or-lt, and-le-l}
 use lib.Dec.{eqb, ltb}
 use lib.ListN.{length, getD, set}
 use lib.Pow.{pow-lt, pow-mono}
-use lib.Seq.{getD-set-same, getD-set-other}
+use lib.Seq.{getD-set-other}
 use Rattle.std.proofs.shelf.Tests.{cases-eq, cases-lt, eq-eqb, ne-eqb, lt-ltb, le-ltb, cond-true, cond-false, cond-both, and-from, and-left, and-right}
 use Rattle.automata.specs.Nfa.{Nfa, Proper}
 use Rattle.automata.specs.Sets.{along, without}
 use Rattle.automata.specs.Drawing.{blank, retargeted}
+use Rattle.automata.proofs.Arrays.{set-get}
 use Rattle.plan.specs.Tables.{tabled}
-
-pub zero-at : (n k : ℕ) → _≡_ {A = ℕ} (getD {A = ℕ} (lib.ListN.replicate n 0) k 0) 0
-zero-at zero k = refl
-zero-at (suc n) zero = refl
-zero-at (suc n) (suc k) = zero-at n k
 
 pub empty : (r : List ℕ) → ((k : ℕ) → getD r k 0 ≡ 0) → tabled 0 0 0 r ≡ blank
 empty r h = λ i. record { count = 0; starts = 0; ends = 0; targets = λ s c. none s c i }
   where
     none : (s c : ℕ) → cond (ltb c 26) (getD r (s * 26 + c) 0) 0 ≡ 0
     none s c = cond-both (ltb c 26) (getD r (s * 26 + c) 0) 0 (λ x. x ≡ 0) (λ _. h (s * 26 + c)) (λ _. refl)
-
-set-get : (l : List ℕ) (i j v : ℕ) → i < length l → getD (set l i v) j 0 ≡ cond (eqb j i) v (getD l j 0)
-set-get l i j v h =
-    ⊎-elim
-    (λ e. subst (λ (k : ℕ). getD (set l i v) k 0 ≡ v) (sym e) (getD-set-same l i v 0 h) ∙ sym (cond-true (eqb j i) v (getD l j 0) (eq-eqb j i e)))
-    (λ ne. getD-set-other l i j v 0 ne ∙ sym (cond-false (eqb j i) v (getD l j 0) (ne-eqb j i ne)))
-    (cases-eq j i)
 
 -- a place names one state and one command
 one-place : (s c i j : ℕ) → c < 26 → j < 26 → eqb (i * 26 + j) (s * 26 + c) ≡ (eqb i s && eqb j c)

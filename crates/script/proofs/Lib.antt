@@ -1,3 +1,5 @@
 pub mod Splits
 pub mod Values
 pub mod Hexes
+pub mod Signs
+pub mod Marks

@@ -8,6 +8,8 @@ use Rattle.std.specs.declared.option.Option.{Option}
 use Rattle.std.specs.declared.option.Option.the-variants.{Some, None}
 use Rattle.script.specs.Numbers.{below, decimal, command-number}
 use Rattle.script.specs.Hex.{hex-word}
+use Rattle.script.specs.OrderNames.{order-of}
+use Rattle.script.specs.declared.order_name.OrderName.{OrderName}
 
 -- a name begins with a letter
 abbrev pub name-word : List ℕ → Bool
@@ -79,3 +81,20 @@ buffer-alone (w ∷ ws) = given (next length-of (w ∷ ws)) (λ a. last (a .0) (
 -- SIDE [BUFFERBYTES]
 abbrev pub side-and-buffer : List (List ℕ) → Option (ℕ × ℕ)
 side-and-buffer ws = given (next byte-of ws) (λ a. mapped (λ n. (a .0, n)) (buffer-alone (a .1)))
+
+-- HEX
+abbrev pub hex-alone : List (List ℕ) → Option (List ℕ)
+hex-alone ws = given (next hex-of ws) (λ a. last (a .0) (a .1))
+
+-- NAME NAME
+abbrev pub two-names : List (List ℕ) → Option (List ℕ × List ℕ)
+two-names ws = given (next name-of ws) (λ a. given (next name-of (a .1)) (λ b. last (a .0, b .0) (b .1)))
+
+-- ORDER
+abbrev pub order-alone : List (List ℕ) → Option OrderName
+order-alone ws = given (next order-of ws) (λ a. last (a .0) (a .1))
+
+-- NAME NAME ORDER
+abbrev pub two-names-and-order : List (List ℕ) → Option (List ℕ × List ℕ × OrderName)
+two-names-and-order ws =
+    given (next name-of ws) (λ a. given (next name-of (a .1)) (λ b. given (next order-of (b .1)) (λ c. last (a .0, b .0, c .0) (c .1))))

@@ -12,7 +12,10 @@ use Rattle.script.specs.declared.statement.Statement.the-variants as code
 use Rattle.script.specs.declared.verb.Verb.{Verb}
 use Rattle.script.specs.declared.verb.Verb.the-variants as verb
 use Rattle.script.specs.Verbs.{verb-of}
-use Rattle.script.specs.Arguments.{name-word, byte-of, given, next, last, name-alone, name-and-hex, side-alone, side-and-state, side-and-arrow, side-and-buffer}
+use Rattle.script.specs.Arguments.{name-word, byte-of, given, next, last, name-alone, name-and-hex, side-alone, side-and-state, side-and-arrow, side-and-buffer, hex-alone, two-names, order-alone, two-names-and-order}
+use Rattle.script.specs.Words.{words}
+use Rattle.script.specs.Pairs.{all-pairs}
+use Rattle.script.specs.declared.order_name.OrderName.{OrderName}
 
 -- a statement, with the bytes of its names in place of references to them
 pub data Said : Type 0 where
@@ -26,6 +29,12 @@ pub data Said : Type 0 where
   write : ℕ → ℕ → Said
   show-plan : List ℕ → Said
   show-side : ℕ → Said
+  pairs : List (List ℕ) → Said
+  deliver : List ℕ → Said
+  rank : Said
+  rank-plans : List ℕ → List ℕ → Said
+  test : OrderName → Said
+  test-plans : List ℕ → List ℕ → OrderName → Said
 
 -- what a statement of the code says
 abbrev pub said : Statement → Said
@@ -39,6 +48,12 @@ said (code.Lift side s c t) = lift side s c t
 said (code.Write side buffer) = write side buffer
 said (code.ShowPlan name) = show-plan (now name)
 said (code.ShowSide side) = show-side side
+said (code.Pairs text) = pairs (words (now text))
+said (code.Deliver hex) = deliver (now hex)
+said code.Rank = rank
+said (code.RankPlans first second) = rank-plans (now first) (now second)
+said (code.Test order) = test order
+said (code.TestPlans first second order) = test-plans (now first) (now second) order
 
 -- no answer is due to a line without words, and to one whose first word begins with #
 abbrev pub passed-over : List (List ℕ) → Bool
@@ -65,6 +80,12 @@ behind verb.Arrow ws = mapped (λ a. arrow (a .0) (a .1) (a .2) (a .3)) (side-an
 behind verb.Lift ws = mapped (λ a. lift (a .0) (a .1) (a .2) (a .3)) (side-and-arrow ws)
 behind verb.Write ws = mapped (λ a. write (a .0) (a .1)) (side-and-buffer ws)
 behind verb.Show ws = shown-alone ws
+behind verb.Pairs ws = cond (all-pairs ws) (Some (pairs ws)) None
+behind verb.Deliver ws = mapped deliver (hex-alone ws)
+behind verb.Rank ws = last rank ws
+behind verb.RankPlans ws = mapped (λ a. rank-plans (a .0) (a .1)) (two-names ws)
+behind verb.Test ws = mapped test (order-alone ws)
+behind verb.TestPlans ws = mapped (λ a. test-plans (a .0) (a .1) (a .2)) (two-names-and-order ws)
 
 -- the statement that the words of a line are, if they are one
 abbrev pub statement : List (List ℕ) → Option Said

@@ -2,11 +2,14 @@ ghost use mathlib.Core.Path.{_≡_};
 ghost use Rattle.std.specs.Options.{mapped};
 ghost use Rattle.script.specs.Words.{words};
 ghost use Rattle.script.specs.Numbers.{command-number};
-ghost use Rattle.script.specs.Arguments.{name-word, name-of, hex-of, byte-of, next, no-words, name-alone, name-and-hex, side-alone, side-and-state, side-and-arrow, buffer-alone, side-and-buffer};
+ghost use Rattle.script.specs.OrderNames.{order-of};
+ghost use Rattle.script.specs.Arguments.{name-word, name-of, hex-of, byte-of, next, no-words, name-alone, name-and-hex, side-alone, side-and-state, side-and-arrow, buffer-alone, side-and-buffer, hex-alone, two-names, order-alone, two-names-and-order};
 use crate::hex::is_hex;
 use crate::numbers::byte;
 use crate::numbers::command;
 use crate::numbers::length;
+use crate::order_name::OrderName;
+use crate::order_name::order_name;
 use crate::words::first_word;
 
 /// Whether the word is a name: it begins with a letter.
@@ -139,4 +142,55 @@ pub(crate) fn side_and_buffer(text: &[u8]) -> Option<(u8, usize)>
 {
     let (side, rest) = next_byte(text)?;
     Some((side, buffer_alone(rest)?))
+}
+
+/// The first word as the name of an order, and what follows it.
+fn next_order(text: &[u8]) -> Option<(OrderName, &[u8])>
+    ensures { λ r. ⌜ mapped (λ x. (x .0, words (x .1 .now))) r ≡ next order-of (words (now (text .entry))) ⌝ }
+{
+    let (word, rest) = first_word(text)?;
+    Some((order_name(word)?, rest))
+}
+
+/// The digits of bytes.
+pub(crate) fn hex_alone(text: &[u8]) -> Option<&[u8]>
+    ensures { λ r. ⌜ mapped (λ x. x .now) r ≡ hex-alone (words (now (text .entry))) ⌝ }
+{
+    let (hex, rest) = next_hex(text)?;
+    if is_end(rest) { Some(hex) } else { None }
+}
+
+/// Two names.
+pub(crate) fn two_names(text: &[u8]) -> Option<(&[u8], &[u8])>
+    ensures { λ r. ⌜ mapped (λ x. (x .0 .now, x .1 .now)) r ≡ two-names (words (now (text .entry))) ⌝ }
+{
+    let (first, rest) = next_name(text)?;
+    let (second, rest) = next_name(rest)?;
+    if is_end(rest) {
+        Some((first, second))
+    } else {
+        None
+    }
+}
+
+/// The name of an order.
+pub(crate) fn order_alone(text: &[u8]) -> Option<OrderName>
+    ensures { λ r. ⌜ r ≡ order-alone (words (now (text .entry))) ⌝ }
+{
+    let (order, rest) = next_order(text)?;
+    if is_end(rest) { Some(order) } else { None }
+}
+
+/// Two names and the name of an order.
+pub(crate) fn two_names_and_order(text: &[u8]) -> Option<(&[u8], &[u8], OrderName)>
+    ensures { λ r. ⌜ mapped (λ x. (x .0 .now, x .1 .now, x .2)) r ≡ two-names-and-order (words (now (text .entry))) ⌝ }
+{
+    let (first, rest) = next_name(text)?;
+    let (second, rest) = next_name(rest)?;
+    let (order, rest) = next_order(rest)?;
+    if is_end(rest) {
+        Some((first, second, order))
+    } else {
+        None
+    }
 }

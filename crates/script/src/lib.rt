@@ -3,6 +3,8 @@
 mod arguments;
 pub mod hex;
 pub mod numbers;
+pub mod order_name;
+pub mod pairs;
 pub mod statement;
 mod verb;
 pub mod words;

@@ -10,7 +10,7 @@ fn is_digit(b: u8) -> bool
 }
 
 /// The number that the word writes in decimal digits, if it is at most `most`.
-fn number(word: &[u8], most: usize) -> Option<usize>
+pub(crate) fn number(word: &[u8], most: usize) -> Option<usize>
     ensures { λ r. ⌜ r ≡ below (most + 1) (decimal (now (word .entry))) ⌝ }
 {
     if word.is_empty() {

@@ -2,15 +2,21 @@ ghost use mathlib.Core.Path.{_≡_};
 ghost use Rattle.std.specs.Options.{mapped};
 ghost use Rattle.script.specs.Words.{words};
 ghost use Rattle.script.specs.Statements.{said, passed-over, shown-of, behind, statement};
+use crate::arguments::hex_alone;
 use crate::arguments::is_end;
 use crate::arguments::is_name;
 use crate::arguments::name_alone;
 use crate::arguments::name_and_hex;
+use crate::arguments::order_alone;
 use crate::arguments::side_alone;
 use crate::arguments::side_and_arrow;
 use crate::arguments::side_and_buffer;
 use crate::arguments::side_and_state;
+use crate::arguments::two_names;
+use crate::arguments::two_names_and_order;
 use crate::numbers::byte;
+use crate::order_name::OrderName;
+use crate::pairs::are_pairs;
 use crate::verb::Verb;
 use crate::verb::read_verb;
 use crate::words::first_word;
@@ -67,6 +73,31 @@ pub enum Statement<'a> {
     /// The side, for a person to read.
     ShowSide {
         side: u8,
+    },
+    /// The pairs of the order that counts as delivered: words as `P<R`.
+    Pairs {
+        text: &'a [u8],
+    },
+    /// The order that the bytes hold, delivered.
+    Deliver {
+        hex: &'a [u8],
+    },
+    /// The greatest order of the two sides.
+    Rank,
+    /// The greatest order of two named plans.
+    RankPlans {
+        programme: &'a [u8],
+        rule: &'a [u8],
+    },
+    /// The test of an order for the two sides.
+    Test {
+        order: OrderName,
+    },
+    /// The test of an order for two named plans.
+    TestPlans {
+        programme: &'a [u8],
+        rule: &'a [u8],
+        order: OrderName,
     },
 }
 
@@ -173,6 +204,64 @@ fn show(text: &[u8]) -> Option<Statement<'_>>
     if is_end(rest) { Some(statement) } else { None }
 }
 
+/// `pairs P<R P<R ..`
+fn pairs(text: &[u8]) -> Option<Statement<'_>>
+    ensures { λ r. ⌜ mapped said r ≡ behind Verb.Pairs (words (now (text .entry))) ⌝ }
+{
+    if are_pairs(text) {
+        Some(Statement::Pairs { text })
+    } else {
+        None
+    }
+}
+
+/// `deliver HEX`
+fn deliver(text: &[u8]) -> Option<Statement<'_>>
+    ensures { λ r. ⌜ mapped said r ≡ behind Verb.Deliver (words (now (text .entry))) ⌝ }
+{
+    let hex = hex_alone(text)?;
+    Some(Statement::Deliver { hex })
+}
+
+/// `rank`
+fn rank(text: &[u8]) -> Option<Statement<'_>>
+    ensures { λ r. ⌜ mapped said r ≡ behind Verb.Rank (words (now (text .entry))) ⌝ }
+{
+    if is_end(text) {
+        Some(Statement::Rank)
+    } else {
+        None
+    }
+}
+
+/// `rank-plans NAME NAME`
+fn rank_plans(text: &[u8]) -> Option<Statement<'_>>
+    ensures { λ r. ⌜ mapped said r ≡ behind Verb.RankPlans (words (now (text .entry))) ⌝ }
+{
+    let (programme, rule) = two_names(text)?;
+    Some(Statement::RankPlans { programme, rule })
+}
+
+/// `test ORDER`
+fn test(text: &[u8]) -> Option<Statement<'_>>
+    ensures { λ r. ⌜ mapped said r ≡ behind Verb.Test (words (now (text .entry))) ⌝ }
+{
+    let order = order_alone(text)?;
+    Some(Statement::Test { order })
+}
+
+/// `test-plans NAME NAME ORDER`
+fn test_plans(text: &[u8]) -> Option<Statement<'_>>
+    ensures { λ r. ⌜ mapped said r ≡ behind Verb.TestPlans (words (now (text .entry))) ⌝ }
+{
+    let (programme, rule, order) = two_names_and_order(text)?;
+    Some(Statement::TestPlans {
+        programme,
+        rule,
+        order,
+    })
+}
+
 /// The statement that the line is, or nothing where it is malformed.
 pub fn parse(line: &[u8]) -> Option<Statement<'_>>
     ensures { λ r. ⌜ mapped said r ≡ statement (words (now (line .entry))) ⌝ }
@@ -188,5 +277,11 @@ pub fn parse(line: &[u8]) -> Option<Statement<'_>>
         Verb::Lift => lift(rest),
         Verb::Write => write(rest),
         Verb::Show => show(rest),
+        Verb::Pairs => pairs(rest),
+        Verb::Deliver => deliver(rest),
+        Verb::Rank => rank(rest),
+        Verb::RankPlans => rank_plans(rest),
+        Verb::Test => test(rest),
+        Verb::TestPlans => test_plans(rest),
     }
 }

@@ -1,5 +1,5 @@
 ghost use mathlib.Core.Path.{_≡_};
-ghost use Rattle.script.specs.Verbs.{verb-of};
+ghost use Rattle.script.specs.Verbs.{verb-of, order-verb-of};
 use crate::words::is_text;
 
 /// The first word of a statement.
@@ -14,6 +14,33 @@ pub(crate) enum Verb {
     Lift,
     Write,
     Show,
+    Pairs,
+    Deliver,
+    Rank,
+    RankPlans,
+    Test,
+    TestPlans,
+}
+
+/// The verb of a statement about orders that the word is, if it is one.
+fn read_order_verb(word: &[u8]) -> Option<Verb>
+    ensures { λ r. ⌜ r ≡ order-verb-of (now (word .entry)) ⌝ }
+{
+    if is_text(word, b"pairs") {
+        Some(Verb::Pairs)
+    } else if is_text(word, b"deliver") {
+        Some(Verb::Deliver)
+    } else if is_text(word, b"rank") {
+        Some(Verb::Rank)
+    } else if is_text(word, b"rank-plans") {
+        Some(Verb::RankPlans)
+    } else if is_text(word, b"test") {
+        Some(Verb::Test)
+    } else if is_text(word, b"test-plans") {
+        Some(Verb::TestPlans)
+    } else {
+        None
+    }
 }
 
 /// The verb that the word is, if it is one.
@@ -39,6 +66,6 @@ pub(crate) fn read_verb(word: &[u8]) -> Option<Verb>
     } else if is_text(word, b"show") {
         Some(Verb::Show)
     } else {
-        None
+        read_order_verb(word)
     }
 }

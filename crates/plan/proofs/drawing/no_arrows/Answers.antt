@@ -1,5 +1,5 @@
 use mathlib.Core.Path.{refl}
-use Rattle.plan.proofs.Tabled.{zero-at}
+use Rattle.automata.proofs.Arrays.{zero-at}
 use Rattle.plan.proofs.drawing.no_arrows.Needs as need
 
 pub returns : need.returns
