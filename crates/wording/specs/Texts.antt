@@ -28,7 +28,16 @@ abbrev pub spaced : List (List ℕ) → List ℕ
 spaced [] = []
 spaced (w ∷ ws) = w ++ behind-spaces ws
 
--- a statement as an answer repeats it: its words, but of a plan only the verb and the name
+-- how much of the words behind the first word w an answer repeats: of a plan the name alone, of pairs and of bytes that
+-- are delivered nothing, and else all
+abbrev pub repeated : List ℕ → List (List ℕ) → List (List ℕ)
+repeated w ws =
+    cond (sameBytes w (codes "plan")) (take 1 ws)
+    (cond (sameBytes w (codes "pairs")) []
+    (cond (sameBytes w (codes "deliver")) []
+    ws))
+
+-- a statement as an answer repeats it
 abbrev pub echoed : List (List ℕ) → List ℕ
 echoed [] = []
-echoed (w ∷ ws) = w ++ behind-spaces (cond (sameBytes w (codes "plan")) (take 1 ws) ws)
+echoed (w ∷ ws) = w ++ behind-spaces (repeated w ws)

@@ -4,5 +4,6 @@
 pub mod answer;
 pub mod echo;
 pub mod hex;
+pub mod pairs;
 pub mod show;
 mod text;
