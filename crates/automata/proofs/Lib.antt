@@ -13,3 +13,7 @@ pub mod Halves
 pub mod Fixed
 pub mod Fronts
 pub mod Views
+pub mod Numbered
+pub mod Simulations
+pub mod Offended
+pub mod Elements

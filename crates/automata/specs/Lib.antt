@@ -6,3 +6,9 @@ pub mod Records
 pub mod Files
 pub mod Reading
 pub mod Lookup
+pub mod Numbering
+pub mod Relations
+pub mod Laws
+pub mod Offences
+pub mod Greatest
+pub mod Refining
