@@ -17,3 +17,6 @@ pub mod Numbered
 pub mod Simulations
 pub mod Offended
 pub mod Elements
+pub mod Transposed
+pub mod Narrowed
+pub mod Ranked

@@ -2,13 +2,11 @@
 -- has for number t and command c, at place t * 26 + c, the numbers that have an arrow under c to t.
 use Prim.Native.Nat.{ℕ, _+_, _*_, _<_}
 use mathlib.Core.Path.{_≡_}
-use mathlib.Core.Bool.{Bool, true, false}
-use mathlib.Core.Logic.{_↔_}
+use mathlib.Core.Bool.{Bool, true, not, _&&_, _||_}
 use mathlib.Core.List.{List}
 use lib.ListN.{getD}
 use Rattle.automata.specs.Sets.{has}
 use Rattle.automata.specs.Nfa.{Nfa}
-use Rattle.automata.specs.Relations.{bits}
 
 -- p has an arrow under c to t
 abbrev pub arc : List ℕ → ℕ → ℕ → ℕ → Bool
@@ -26,6 +24,6 @@ Into f c set r = (u : ℕ) × (u < 64) × (has set u ≡ true) × (arc f r c u �
 abbrev pub Matches : List ℕ → ℕ → ℕ → ℕ → ℕ → Type 0
 Matches f t set p r = (c : ℕ) → c < 26 → arc f p c t ≡ true → Into f c set r
 
--- the pairs of existing states that keep the law of ends
-abbrev pub Candidate : (ℕ → Bool) → ℕ → ℕ → ℕ → Type 0
-Candidate e ends p r = (e p ≡ true) × (e r ≡ true) × (has ends p ≡ true → has ends r ≡ true)
+-- both states exist, and r is an end if p is one
+unfoldable pub candidate : (ℕ → Bool) → ℕ → ℕ → ℕ → Bool
+candidate e ends p r = (e p && e r) && (not (has ends p) || has ends r)
