@@ -7,7 +7,7 @@ use mathlib.Core.List.{List, [], _∷_}
 use native.Mathlib.Omega.{arith}
 use lib.Bits.{bitAnd, bitOr, and-le-l}
 use lib.Dec.{eqb}
-use lib.ListN.{length, getD, set, length-set, List·getD-eq-default}
+use lib.ListN.{length, getD, set, replicate, length-set, List·getD-eq-default}
 use lib.Seq.{getD-set-same, getD-set-other}
 use Rattle.std.proofs.shelf.Tests.{cases-eq, cases-lt, cases-bool, eq-eqb, ne-eqb, both-ways, and-parts, and-from, cond-true, cond-false, not-true, not-from-false}
 use Rattle.automata.specs.Sets.{has}
@@ -61,6 +61,10 @@ meet-element a b ha ne =
     let m = trailing-has 64 (bitAnd a b) (omega (arith, ne)) (omega (arith, and-le-l a b)) .1 in
     let q = and-parts _ _ (sym (has-and a b _) ∙ m) in
     (_, q .0, q .1)
+
+pub apart-from : (a b : ℕ) → a < 2 ^ 64 → ((u : ℕ) → has b u ≡ true → has a u ≡ false) → bitAnd a b ≡ 0
+apart-from a b ha h =
+    ⊎-elim (λ e. e) (λ ne. let m = meet-element a b ha ne in absurd (both-ways (has a (m .0)) (h (m .0) (m .2)) (m .1))) (cases-eq (bitAnd a b) 0)
 
 -- an empty set
 pub zero-none : (x r : ℕ) → x ≡ 0 → has x r ≡ false
@@ -123,3 +127,30 @@ rows-step f rows n v i l h = record {
 pub rows-end : (f : ℕ → ℕ → Bool) (rows : List ℕ) (n : ℕ) → RowsFilled f rows n → 64 ≤ n → n ≤ 64 → ((p r : ℕ) → 64 ≤ p → f p r ≡ false) → (p r : ℕ) → bits rows p r ≡ f p r
 rows-end f rows n i l u h p r =
     ⊎-elim (λ x. i .done p x r) (λ x. ap (λ (m : ℕ). has m r) (i .rest p x) ∙ has-zero r ∙ sym (h p r (omega arith))) (cases-lt p n)
+
+-- a list of zeros
+pub zero-at : (n k : ℕ) → _≡_ {A = ℕ} (getD {A = ℕ} (replicate n 0) k 0) 0
+zero-at zero k = refl
+zero-at (suc n) zero = refl
+zero-at (suc n) (suc k) = zero-at n k
+
+-- A table of 26 rows for each number, filled place by place.
+pub record TableFilled (f : ℕ → ℕ → ℕ) (table : List ℕ) (n : ℕ) : Type 0 where
+  pub size : length table ≡ 1664
+  pub done : (s c : ℕ) → c < 26 → s * 26 + c < n → getD table (s * 26 + c) 0 ≡ f s c
+
+pub table-start : (f : ℕ → ℕ → ℕ) (table : List ℕ) → length table ≡ 1664 → TableFilled f table 0
+table-start f table n = record { size = n; done = λ s c l h. absurd (omega arith) }
+
+pub table-step : (f : ℕ → ℕ → ℕ) (table : List ℕ) (n v : ℕ) → TableFilled f table n → n < 1664 → v ≡ f (n / 26) (n % 26) → TableFilled f (set table n v) (n + 1)
+table-step f table n v i l e = record {
+  size = length-set table n v ∙ i .size;
+  done = λ s c lc h. ⊎-elim
+      (λ q.
+        let es : n / 26 ≡ s = omega arith in
+        let ec : n % 26 ≡ c = omega arith in
+        subst (λ (m : ℕ). getD (set table n v) m 0 ≡ f s c) (sym q)
+          (getD-set-same table n v 0 (omega (arith, i .size)) ∙ e ∙ ap (λ (m : ℕ). f m (n % 26)) es ∙ ap (λ (m : ℕ). f s m) ec))
+      (λ ne. getD-set-other table n (s * 26 + c) v 0 ne ∙ i .done s c lc (omega arith))
+      (cases-eq (s * 26 + c) n)
+}

@@ -20,3 +20,4 @@ pub mod Elements
 pub mod Transposed
 pub mod Narrowed
 pub mod Ranked
+pub mod Listed

@@ -9,11 +9,12 @@ use Rattle.std.proofs.shelf.Tests.{both-ways}
 use Rattle.automata.specs.Sets.{has}
 use Rattle.automata.specs.Nfa.{Nfa}
 use Rattle.automata.specs.Laws.{Reflexive, Transitive, KeepsEnds, KeepsArrows, Laws}
-use Rattle.automata.specs.Offences.{Offence, not-reflexive, not-transitive, end-not-kept, arrow-not-matched, reported, Offends, Lower, Before, FirstOffence}
+use Rattle.automata.specs.Offences.{Offence, not-reflexive, not-transitive, end-not-kept, arrow-not-matched, Offends, Before, FirstOffence}
+use Rattle.automata.specs.Searches.{StopsReflexive, StopsTransitive, StopsEnds, StopsArrows}
 
 module _ (e : ℕ → Bool) (N : Nfa) (s : ℕ → ℕ → Bool) where
   -- no offence there
-  abbrev pub Clear : Offence → Type 0
+  abbrev Clear : Offence → Type 0
   Clear x = Offends e N s x → ⊥
 
   -- a law that holds is broken nowhere
@@ -35,29 +36,6 @@ module _ (e : ℕ → Bool) (N : Nfa) (s : ℕ → ℕ → Bool) where
   offence-breaks (end-not-kept p r) x l = clear-ends (l .ends) p r x
   offence-breaks (arrow-not-matched p r c t) x l = clear-arrows (l .arrows) p r c t x
 
-  -- what a search in ascending order has passed when it stops
-  pub record StopsAt (p : ℕ) : Type 0 where
-    pub here : Offends e N s (not-reflexive p)
-    pub ps : (k : ℕ) → k < p → Clear (not-reflexive k)
-
-  pub record StopsAtThree (p q r : ℕ) : Type 0 where
-    pub here : Offends e N s (not-transitive p q r)
-    pub ps : (k : ℕ) → k < p → (q r : ℕ) → Clear (not-transitive k q r)
-    pub qs : (k : ℕ) → k < q → (r : ℕ) → Clear (not-transitive p k r)
-    pub rs : (k : ℕ) → k < r → Clear (not-transitive p q k)
-
-  pub record StopsAtTwo (p r : ℕ) : Type 0 where
-    pub here : Offends e N s (end-not-kept p r)
-    pub ps : (k : ℕ) → k < p → (r : ℕ) → Clear (end-not-kept k r)
-    pub rs : (k : ℕ) → k < r → Clear (end-not-kept p k)
-
-  pub record StopsAtFour (p r c t : ℕ) : Type 0 where
-    pub here : Offends e N s (arrow-not-matched p r c t)
-    pub ps : (k : ℕ) → k < p → (r c t : ℕ) → Clear (arrow-not-matched k r c t)
-    pub rs : (k : ℕ) → k < r → (c t : ℕ) → Clear (arrow-not-matched p k c t)
-    pub cs : (k : ℕ) → k < c → (t : ℕ) → Clear (arrow-not-matched p r k t)
-    pub ts : (k : ℕ) → k < t → Clear (arrow-not-matched p r c k)
-
 -- where one number is the first that differs
 first-differs : (P : ℕ → Type 0) (k p : ℕ) {X : Type 0} → (k < p → P k) → (X → P p) → (k < p) ⊎ ((k ≡ p) × X) → P k
 first-differs P k p f g = ⊎-elim f (λ q. subst P (sym (q .0)) (g (q .1)))
@@ -69,50 +47,50 @@ later-law : (m n : ℕ) {X : Type 0} → n < m → (m < n) ⊎ ((m ≡ n) × X) 
 later-law m n h = ⊎-elim (λ l. omega arith) (λ q. omega (arith, q .0))
 
 module _ (e : ℕ → Bool) (N : Nfa) (s : ℕ → ℕ → Bool) where
-  pub first-not-reflexive : (p : ℕ) → StopsAt e N s p → FirstOffence e N s (not-reflexive p)
-  first-not-reflexive p x = record { offends = x .here; first = before }
+  pub first-not-reflexive : (p : ℕ) → StopsReflexive e s p → FirstOffence e N s (not-reflexive p)
+  first-not-reflexive p x = record { offends = x .0; first = before }
     where
       before : (y : Offence) → Before y (not-reflexive p) → Clear e N s y
-      before (not-reflexive k) b = first-differs (λ k. Clear e N s (not-reflexive k)) k p (x .ps k) (λ z. absurd z) (same-law 6 b)
+      before (not-reflexive k) b = first-differs (λ k. Clear e N s (not-reflexive k)) k p (x .1 k) (λ z. absurd z) (same-law 6 b)
       before (not-transitive k q r) b = absurd (later-law 7 6 (omega arith) b)
       before (end-not-kept k r) b = absurd (later-law 8 6 (omega arith) b)
       before (arrow-not-matched k r c t) b = absurd (later-law 9 6 (omega arith) b)
 
-  pub first-not-transitive : Reflexive e s → (p q r : ℕ) → StopsAtThree e N s p q r → FirstOffence e N s (not-transitive p q r)
-  first-not-transitive l₁ p q r x = record { offends = x .here; first = before }
+  pub first-not-transitive : Reflexive e s → (p q r : ℕ) → StopsTransitive s p q r → FirstOffence e N s (not-transitive p q r)
+  first-not-transitive l₁ p q r x = record { offends = x .0; first = before }
     where
       before : (y : Offence) → Before y (not-transitive p q r) → Clear e N s y
       before (not-reflexive k) b = clear-reflexive e N s l₁ k
       before (not-transitive k i j) b =
-          first-differs (λ k. Clear e N s (not-transitive k i j)) k p (λ l. x .ps k l i j)
-          (first-differs (λ k. Clear e N s (not-transitive p k j)) i q (λ l. x .qs i l j)
-            (first-differs (λ k. Clear e N s (not-transitive p q k)) j r (x .rs j) (λ z. absurd z)))
+          first-differs (λ k. Clear e N s (not-transitive k i j)) k p (λ l. x .1 k l i j)
+          (first-differs (λ k. Clear e N s (not-transitive p k j)) i q (λ l. x .2 i l j)
+            (first-differs (λ k. Clear e N s (not-transitive p q k)) j r (x .3 j) (λ z. absurd z)))
           (same-law 7 b)
       before (end-not-kept k j) b = absurd (later-law 8 7 (omega arith) b)
       before (arrow-not-matched k j c t) b = absurd (later-law 9 7 (omega arith) b)
 
-  pub first-end-not-kept : Reflexive e s → Transitive s → (p r : ℕ) → StopsAtTwo e N s p r → FirstOffence e N s (end-not-kept p r)
-  first-end-not-kept l₁ l₂ p r x = record { offends = x .here; first = before }
+  pub first-end-not-kept : Reflexive e s → Transitive s → (p r : ℕ) → StopsEnds N s p r → FirstOffence e N s (end-not-kept p r)
+  first-end-not-kept l₁ l₂ p r x = record { offends = x .0; first = before }
     where
       before : (y : Offence) → Before y (end-not-kept p r) → Clear e N s y
       before (not-reflexive k) b = clear-reflexive e N s l₁ k
       before (not-transitive k i j) b = clear-transitive e N s l₂ k i j
       before (end-not-kept k j) b =
-          first-differs (λ k. Clear e N s (end-not-kept k j)) k p (λ l. x .ps k l j)
-          (first-differs (λ k. Clear e N s (end-not-kept p k)) j r (x .rs j) (λ z. absurd z))
+          first-differs (λ k. Clear e N s (end-not-kept k j)) k p (λ l. x .1 k l j)
+          (first-differs (λ k. Clear e N s (end-not-kept p k)) j r (x .2 j) (λ z. absurd z))
           (same-law 8 b)
       before (arrow-not-matched k j c t) b = absurd (later-law 9 8 (omega arith) b)
 
-  pub first-arrow-not-matched : Reflexive e s → Transitive s → KeepsEnds N s → (p r c t : ℕ) → StopsAtFour e N s p r c t → FirstOffence e N s (arrow-not-matched p r c t)
-  first-arrow-not-matched l₁ l₂ l₃ p r c t x = record { offends = x .here; first = before }
+  pub first-arrow-not-matched : Reflexive e s → Transitive s → KeepsEnds N s → (p r c t : ℕ) → StopsArrows N s p r c t → FirstOffence e N s (arrow-not-matched p r c t)
+  first-arrow-not-matched l₁ l₂ l₃ p r c t x = record { offends = x .0; first = before }
     where
       before : (y : Offence) → Before y (arrow-not-matched p r c t) → Clear e N s y
       before (not-reflexive k) b = clear-reflexive e N s l₁ k
       before (not-transitive k i j) b = clear-transitive e N s l₂ k i j
       before (end-not-kept k j) b = clear-ends e N s l₃ k j
       before (arrow-not-matched k j d u) b =
-          first-differs (λ k. Clear e N s (arrow-not-matched k j d u)) k p (λ l. x .ps k l j d u)
-          (first-differs (λ k. Clear e N s (arrow-not-matched p k d u)) j r (λ l. x .rs j l d u)
-            (first-differs (λ k. Clear e N s (arrow-not-matched p r k u)) d c (λ l. x .cs d l u)
-              (first-differs (λ k. Clear e N s (arrow-not-matched p r c k)) u t (x .ts u) (λ z. absurd z))))
+          first-differs (λ k. Clear e N s (arrow-not-matched k j d u)) k p (λ l. x .1 k l j d u)
+          (first-differs (λ k. Clear e N s (arrow-not-matched p k d u)) j r (λ l. x .2 j l d u)
+            (first-differs (λ k. Clear e N s (arrow-not-matched p r k u)) d c (λ l. x .3 d l u)
+              (first-differs (λ k. Clear e N s (arrow-not-matched p r c k)) u t (x .4 u) (λ z. absurd z))))
           (same-law 9 b)

@@ -63,14 +63,14 @@ rank-less a b waiting rest d h l hr hd =
     (λ ne. let q : bitOr rest d < 2 ^ 64 = or-lt 64 rest d hr hd in omega arith)
     (cases-eq d 0)
 
-module _ (e : ℕ → Bool) (N : Nfa) (k : Confined e N) (f : List ℕ) (is : Sources f N) where
-  -- The rows have candidates alone, all pairs of every simulation, and only matched arrows to the numbers that do not wait.
-  pub record Ranked (rows : List ℕ) (waiting : ℕ) : Type 0 where
-    pub size : length rows ≡ 64
-    pub down : (p r : ℕ) → bits rows p r ≡ true → candidate e (N .ends) p r ≡ true
-    pub done : (t : ℕ) → t < 64 → has waiting t ≡ false → (p r : ℕ) → bits rows p r ≡ true → Matches f t (getD rows t 0) p r
-    pub top : (s : ℕ → ℕ → Bool) → Simulation N (among e s) → (p r : ℕ) → among e s p r ≡ true → bits rows p r ≡ true
+-- The rows have candidates alone, all pairs of every simulation, and only matched arrows to the numbers that do not wait.
+pub record Ranked (e : ℕ → Bool) (N : Nfa) (f rows : List ℕ) (waiting : ℕ) : Type 0 where
+  pub size : length rows ≡ 64
+  pub down : (p r : ℕ) → bits rows p r ≡ true → candidate e (N .ends) p r ≡ true
+  pub done : (t : ℕ) → t < 64 → has waiting t ≡ false → (p r : ℕ) → bits rows p r ≡ true → Matches f t (getD rows t 0) p r
+  pub top : (s : ℕ → ℕ → Bool) → Simulation N (among e s) → (p r : ℕ) → among e s p r ≡ true → bits rows p r ≡ true
 
+module _ (e : ℕ → Bool) (N : Nfa) (k : Confined e N) (f : List ℕ) (is : Sources f N) where
   -- the table and the plan have the same arrows
   to-arrow : (p c t : ℕ) → e p ≡ true → c < 26 → t < 64 → arc f p c t ≡ true → Arrow N p c t
   to-arrow p c t ep lc lt a = sym (is p c t (k .small p ep) lc lt) ∙ a
@@ -78,7 +78,7 @@ module _ (e : ℕ → Bool) (N : Nfa) (k : Confined e N) (f : List ℕ) (is : So
   from-arrow : (p c t : ℕ) → Arrow N p c t → arc f p c t ≡ true
   from-arrow p c t a = is p c t (k .small p (k .source p c t a)) (k .command p c t a) (k .small t (k .target p c t a)) ∙ a
 
-  pub rank-start : (rows : List ℕ) (waiting : ℕ) → length rows ≡ 64 → ((p r : ℕ) → bits rows p r ≡ candidate e (N .ends) p r) → ((j : ℕ) → has waiting j ≡ e j) → Ranked rows waiting
+  pub rank-start : (rows : List ℕ) (waiting : ℕ) → length rows ≡ 64 → ((p r : ℕ) → bits rows p r ≡ candidate e (N .ends) p r) → ((j : ℕ) → has waiting j ≡ e j) → Ranked e N f rows waiting
   rank-start rows waiting n is₀ w = record {
     size = n;
     down = λ p r h. sym (is₀ p r) ∙ h;
@@ -90,7 +90,7 @@ module _ (e : ℕ → Bool) (N : Nfa) (k : Confined e N) (f : List ℕ) (is : So
         is₀ p r ∙ candidate-from e (N .ends) p r (q .0) (q .1) (x .ends p r h)
   }
 
-  module _ (rows rows′ : List ℕ) (waiting t rest d : ℕ) (i : Ranked rows waiting) (lt : t < 64) (m : Less rest waiting t) (n : length rows′ ≡ 64)
+  module _ (rows rows′ : List ℕ) (waiting t rest d : ℕ) (i : Ranked e N f rows waiting) (lt : t < 64) (m : Less rest waiting t) (n : length rows′ ≡ 64)
       (pairs : (p r : ℕ) → (bits rows′ p r ≡ true) ↔ ((bits rows p r ≡ true) × Matches f t (getD rows t 0) p r))
       (kept : (p : ℕ) → has d p ≡ false → getD rows′ p 0 ≡ getD rows p 0) where
     -- a simulation's pairs are matched by its own pairs
@@ -100,7 +100,7 @@ module _ (e : ℕ → Bool) (N : Nfa) (k : Confined e N) (f : List ℕ) (is : So
         let u = x .arrows p r c t h (to-arrow p c t (q .0) lc lt a) in
         (u .0, k .small (u .0) (k .target r c (u .0) (u .1)), i .top s x t (u .0) (u .2), from-arrow r c (u .0) (u .1))
 
-    pub rank-step : Ranked rows′ (bitOr rest d)
+    pub rank-step : Ranked e N f rows′ (bitOr rest d)
     rank-step = record {
       size = n;
       down = λ p r h. i .down p r (pairs p r .0 h .0);
@@ -115,7 +115,7 @@ module _ (e : ℕ → Bool) (N : Nfa) (k : Confined e N) (f : List ℕ) (is : So
       top = λ s x p r h. pairs p r .1 (i .top s x p r h, simulated s x p r h)
     }
 
-  pub rank-end : (rows : List ℕ) (waiting : ℕ) → Ranked rows waiting → waiting ≡ 0 → Largest e N (bits rows)
+  pub rank-end : (rows : List ℕ) (waiting : ℕ) → Ranked e N f rows waiting → waiting ≡ 0 → Largest e N (bits rows)
   rank-end rows waiting i z p r =
       ((λ h. let q = candidate-parts e (N .ends) p r (i .down p r h) in (q .0, q .1, (bits rows, simulation, h)))
       , (λ x. i .top (x .2 .0) (x .2 .1) p r (among-from e (x .2 .0) p r (x .0) (x .1) (x .2 .2))))

@@ -10,5 +10,6 @@ pub mod Numbering
 pub mod Relations
 pub mod Laws
 pub mod Offences
+pub mod Searches
 pub mod Greatest
 pub mod Refining

@@ -25,12 +25,29 @@ reported (not-transitive p q r) = record { number = 7; values = p ∷ q ∷ r �
 reported (end-not-kept p r) = record { number = 8; values = p ∷ r ∷ [] }
 reported (arrow-not-matched p r c t) = record { number = 9; values = p ∷ r ∷ c ∷ t ∷ [] }
 
--- the law is broken there by the relation s, among the existing states e of the plan N
+-- How each law is broken by the relation s, among the existing states e of the plan N.
+
+-- p is not below itself
+abbrev pub BreaksReflexive : (ℕ → Bool) → (ℕ → ℕ → Bool) → ℕ → Type 0
+BreaksReflexive e s p = (e p ≡ true) × (s p p ≡ false)
+
+-- p is below q and q below r, but p is not below r
+abbrev pub BreaksTransitive : (ℕ → ℕ → Bool) → ℕ → ℕ → ℕ → Type 0
+BreaksTransitive s p q r = (s p q ≡ true) × (s q r ≡ true) × (s p r ≡ false)
+
+-- p is below r and an end, but r is no end
+abbrev pub BreaksEnds : Nfa → (ℕ → ℕ → Bool) → ℕ → ℕ → Type 0
+BreaksEnds N s p r = (s p r ≡ true) × End N p × (has (N .ends) r ≡ false)
+
+-- p is below r and has an arrow under c to t, but t is below no target of r under c
+abbrev pub BreaksArrows : Nfa → (ℕ → ℕ → Bool) → ℕ → ℕ → ℕ → ℕ → Type 0
+BreaksArrows N s p r c t = (s p r ≡ true) × Arrow N p c t × ((u : ℕ) → Arrow N r c u → s t u ≡ false)
+
 abbrev pub Offends : (ℕ → Bool) → Nfa → (ℕ → ℕ → Bool) → Offence → Type 0
-Offends e N s (not-reflexive p) = (e p ≡ true) × (s p p ≡ false)
-Offends e N s (not-transitive p q r) = (s p q ≡ true) × (s q r ≡ true) × (s p r ≡ false)
-Offends e N s (end-not-kept p r) = (s p r ≡ true) × End N p × (has (N .ends) r ≡ false)
-Offends e N s (arrow-not-matched p r c t) = (s p r ≡ true) × Arrow N p c t × ((u : ℕ) → Arrow N r c u → s t u ≡ false)
+Offends e N s (not-reflexive p) = BreaksReflexive e s p
+Offends e N s (not-transitive p q r) = BreaksTransitive s p q r
+Offends e N s (end-not-kept p r) = BreaksEnds N s p r
+Offends e N s (arrow-not-matched p r c t) = BreaksArrows N s p r c t
 
 -- x comes before y, number by number
 abbrev pub Lower : List ℕ → List ℕ → Type 0
