@@ -23,6 +23,12 @@ same-bool false false f g = refl
 pub else-false : (b : Bool) → (b ≡ true → ⊥) → b ≡ false
 else-false b h = ⊎-elim (λ e. absurd (h e)) (λ e. e) (cases-bool b)
 
+-- what is there and not lost is left
+pub unless-lost : (a b : Bool) → (a && not b) ≡ false → a ≡ true → b ≡ true
+unless-lost true true h e = refl
+unless-lost true false h e = sym h
+unless-lost false b h e = absurd (both-ways false refl e)
+
 -- the set r without u
 abbrev pub Less : ℕ → ℕ → ℕ → Type 0
 Less r′ r u = (j : ℕ) → has r′ j ≡ cond (eqb j u) false (has r j)

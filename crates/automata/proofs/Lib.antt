@@ -21,3 +21,4 @@ pub mod Transposed
 pub mod Narrowed
 pub mod Ranked
 pub mod Listed
+pub mod Matched

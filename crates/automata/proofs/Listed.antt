@@ -11,7 +11,7 @@ use Rattle.std.proofs.shelf.Tests.{cases-lt, lt-ltb, le-ltb}
 use Rattle.automata.specs.Sets.{has}
 use Rattle.automata.specs.Nfa.{Nfa, Proper}
 use Rattle.automata.specs.Numbering.{exists, beside, Confined}
-use Rattle.automata.specs.Relations.{cell, listed}
+use Rattle.automata.specs.Relations.{bits, among, cell, listed}
 use Rattle.automata.proofs.Numbered.{beside-past, beside-unknown}
 
 module _ (A R : Nfa) (pa : Proper A) (pr : Proper R) (table : List ℕ) (n : length table ≡ 1664)
@@ -44,3 +44,10 @@ module _ (A R : Nfa) (pa : Proper A) (pr : Proper R) (table : List ℕ) (n : len
 
     pub from-beside : (F : (ℕ → Bool) → Nfa → Type 0) → F (exists A R) (beside A R) → F (has states) (listed ends table)
     from-beside F x = subst (λ (N : Nfa). F (has states) N) (sym (listed-beside ends e)) (subst (λ (k : ℕ → Bool). F k (beside A R)) (sym existing) x)
+
+    -- the same with an order between the existing states, taken down as rows
+    pub to-comparison : (o : ℕ → ℕ → Bool) (rows : List ℕ) → ((p r : ℕ) → bits rows p r ≡ among (has states) o p r) → (F : (ℕ → Bool) → Nfa → (ℕ → ℕ → Bool) → Type 0) →
+        F (has states) (listed ends table) (bits rows) → F (exists A R) (beside A R) (among (exists A R) o)
+    to-comparison o rows h F x =
+        let q : _≡_ {A = ℕ → ℕ → Bool} (bits rows) (among (has states) o) = fun-ext (λ p. fun-ext (λ r. h p r)) in
+        to-beside (λ (k : ℕ → Bool) (N : Nfa). F k N (among k o)) (subst (λ (s : ℕ → ℕ → Bool). F (has states) (listed ends table) s) q x)

@@ -5,11 +5,11 @@ use mathlib.Core.Bool.{Bool, true, false}
 use mathlib.Core.Logic.{_⊎_, inl, inr, ⊎-elim}
 use mathlib.Core.List.{[], _∷_}
 use native.Mathlib.Omega.{arith}
-use Rattle.std.proofs.shelf.Tests.{both-ways}
+use Rattle.std.proofs.shelf.Tests.{both-ways, cases-bool}
 use Rattle.automata.specs.Sets.{has}
 use Rattle.automata.specs.Nfa.{Nfa}
 use Rattle.automata.specs.Laws.{Reflexive, Transitive, KeepsEnds, KeepsArrows, Laws}
-use Rattle.automata.specs.Offences.{Offence, not-reflexive, not-transitive, end-not-kept, arrow-not-matched, Offends, Before, FirstOffence}
+use Rattle.automata.specs.Offences.{Offence, not-reflexive, not-transitive, end-not-kept, arrow-not-matched, BreaksReflexive, BreaksTransitive, BreaksEnds, Offends, Before, FirstOffence}
 use Rattle.automata.specs.Searches.{StopsReflexive, StopsTransitive, StopsEnds, StopsArrows}
 
 module _ (e : ℕ → Bool) (N : Nfa) (s : ℕ → ℕ → Bool) where
@@ -29,6 +29,16 @@ module _ (e : ℕ → Bool) (N : Nfa) (s : ℕ → ℕ → Bool) where
 
   pub clear-arrows : KeepsArrows N s → (p r c t : ℕ) → Clear (arrow-not-matched p r c t)
   clear-arrows l p r c t x = let u = l p r c t (x .0) (x .1) in both-ways (s t (u .0)) (x .2 (u .0) (u .1)) (u .2)
+
+  -- a law that is broken nowhere holds
+  pub keeps-reflexive : ((p : ℕ) → BreaksReflexive e s p → ⊥) → Reflexive e s
+  keeps-reflexive h p ep = ⊎-elim (λ t. t) (λ f. absurd (h p (ep, f))) (cases-bool (s p p))
+
+  pub keeps-transitive : ((p q r : ℕ) → BreaksTransitive s p q r → ⊥) → Transitive s
+  keeps-transitive h p q r a b = ⊎-elim (λ t. t) (λ f. absurd (h p q r (a, b, f))) (cases-bool (s p r))
+
+  pub keeps-ends : ((p r : ℕ) → BreaksEnds N s p r → ⊥) → KeepsEnds N s
+  keeps-ends h p r a f = ⊎-elim (λ t. t) (λ n. absurd (h p r (a, f, n))) (cases-bool (has (N .ends) r))
 
   pub offence-breaks : (x : Offence) → Offends e N s x → Laws e N s → ⊥
   offence-breaks (not-reflexive p) x l = clear-reflexive (l .reflexive) p x

@@ -6,7 +6,7 @@ use mathlib.Core.Logic.{_⊎_, inl, inr, ⊎-elim}
 use mathlib.Core.List.{List, [], _∷_}
 use native.Mathlib.Omega.{arith}
 use lib.Dec.{eqb}
-use Rattle.std.proofs.shelf.Tests.{and-parts, and-from, or-cases, or-left, or-right, eq-eqb, eqb-true, cases-eq}
+use Rattle.std.proofs.shelf.Tests.{and-parts, and-from, and-left, and-right, or-cases, or-left, or-right, eq-eqb, eqb-true, cases-eq}
 use Rattle.automata.specs.Nfa.{Nfa, Proper}
 use Rattle.automata.specs.Runs.{End, Arrow, Leads}
 use Rattle.automata.specs.Numbering.{exists, beside, Confined}
@@ -26,6 +26,20 @@ among-parts e o p r h =
     let q = and-parts (e p && e r) (o p r) h in
     let x = and-parts (e p) (e r) (q .0) in
     (x .0, x .1, q .1)
+
+-- one of them does not exist
+pub among-left : (e : ℕ → Bool) (o : ℕ → ℕ → Bool) (p r : ℕ) → e p ≡ false → among e o p r ≡ false
+unfolding among
+among-left e o p r h = and-left (e p && e r) (o p r) (and-left (e p) (e r) h)
+
+pub among-right : (e : ℕ → Bool) (o : ℕ → ℕ → Bool) (p r : ℕ) → e r ≡ false → among e o p r ≡ false
+unfolding among
+among-right e o p r h = and-left (e p && e r) (o p r) (and-right (e p) (e r) h)
+
+-- both exist
+pub among-both : (e : ℕ → Bool) (o : ℕ → ℕ → Bool) (p r : ℕ) → e p ≡ true → e r ≡ true → among e o p r ≡ o p r
+unfolding among
+among-both e o p r ep er = simp (ep, er)
 
 -- some number below n passes the test
 some : (ℕ → Bool) → ℕ → Bool
