@@ -9,9 +9,9 @@ use lib.Bits.{bitAnd, bitOr, and-le-l}
 use lib.Dec.{eqb}
 use lib.ListN.{length, getD, set, replicate, length-set, List·getD-eq-default}
 use lib.Seq.{getD-set-same, getD-set-other}
-use Rattle.std.proofs.shelf.Tests.{cases-eq, cases-lt, cases-bool, eq-eqb, ne-eqb, both-ways, and-parts, and-from, cond-true, cond-false, not-true, not-from-false}
+use Rattle.std.proofs.shelf.Tests.{cases-eq, cases-lt, cases-bool, eq-eqb, ne-eqb, both-ways, and-parts, and-from, or-cases, or-left, or-right, cond-true, cond-false, not-true, not-from-false}
 use Rattle.automata.specs.Sets.{has}
-use Rattle.automata.specs.Relations.{bits}
+use Rattle.automata.specs.Relations.{bits, any}
 use Rattle.automata.proofs.Bits.{has-and, has-not, has-zero, has-along, has-past, has-small, trailing-has}
 
 pub same-bool : (a b : Bool) → (a ≡ true → b ≡ true) → (b ≡ true → a ≡ true) → a ≡ b
@@ -28,6 +28,21 @@ pub unless-lost : (a b : Bool) → (a && not b) ≡ false → a ≡ true → b �
 unless-lost true true h e = refl
 unless-lost true false h e = sym h
 unless-lost false b h e = absurd (both-ways false refl e)
+
+-- some number passes
+pub any-find : (n : ℕ) (f : ℕ → Bool) → any n f ≡ true → (k : ℕ) × (k < n) × (f k ≡ true)
+unfolding any
+any-find zero f e = absurd (both-ways false refl e)
+any-find (suc n) f e = ⊎-elim (λ h. let k = any-find n f h in (k .0, omega arith, k .2)) (λ h. (n, omega arith, h)) (or-cases (any n f) (f n) e)
+
+pub any-from : (n : ℕ) (f : ℕ → Bool) (k : ℕ) → k < n → f k ≡ true → any n f ≡ true
+unfolding any
+any-from zero f k l e = absurd (omega arith)
+any-from (suc n) f k l e =
+    ⊎-elim
+    (λ q. or-right (any n f) (f n) (subst (λ (m : ℕ). f m ≡ true) q e))
+    (λ ne. or-left (any n f) (f n) (any-from n f k (omega arith) e))
+    (cases-eq k n)
 
 -- the set r without u
 abbrev pub Less : ℕ → ℕ → ℕ → Type 0

@@ -22,3 +22,4 @@ pub mod Narrowed
 pub mod Ranked
 pub mod Listed
 pub mod Matched
+pub mod Tested

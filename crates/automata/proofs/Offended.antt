@@ -1,15 +1,16 @@
 -- The first offence, law by law: what stands before it in the order of report.
 use Prim.Native.Nat.{ℕ, _<_}
-use mathlib.Core.Path.{_≡_, refl, sym, _∙_, ap, subst}
+use mathlib.Core.Path.{_≡_, refl, sym, _∙_, ap, ap₂, subst}
 use mathlib.Core.Bool.{Bool, true, false}
 use mathlib.Core.Logic.{_⊎_, inl, inr, ⊎-elim}
-use mathlib.Core.List.{[], _∷_}
+use mathlib.Core.List.{List, [], _∷_}
 use native.Mathlib.Omega.{arith}
-use Rattle.std.proofs.shelf.Tests.{both-ways, cases-bool}
+use Rattle.std.proofs.shelf.Tests.{both-ways, cases-bool, cases-order}
 use Rattle.automata.specs.Sets.{has}
 use Rattle.automata.specs.Nfa.{Nfa}
+use Rattle.automata.specs.Drawing.{Report}
 use Rattle.automata.specs.Laws.{Reflexive, Transitive, KeepsEnds, KeepsArrows, Laws}
-use Rattle.automata.specs.Offences.{Offence, not-reflexive, not-transitive, end-not-kept, arrow-not-matched, BreaksReflexive, BreaksTransitive, BreaksEnds, Offends, Before, FirstOffence}
+use Rattle.automata.specs.Offences.{Offence, not-reflexive, not-transitive, end-not-kept, arrow-not-matched, BreaksReflexive, BreaksTransitive, BreaksEnds, reported, Offends, Lower, Before, FirstOffence}
 use Rattle.automata.specs.Searches.{StopsReflexive, StopsTransitive, StopsEnds, StopsArrows}
 
 module _ (e : ℕ → Bool) (N : Nfa) (s : ℕ → ℕ → Bool) where
@@ -104,3 +105,31 @@ module _ (e : ℕ → Bool) (N : Nfa) (s : ℕ → ℕ → Bool) where
             (first-differs (λ k. Clear e N s (arrow-not-matched p r k u)) d c (λ l. x .3 d l u)
               (first-differs (λ k. Clear e N s (arrow-not-matched p r c k)) u t (x .4 u) (λ z. absurd z))))
           (same-law 9 b)
+
+-- of two lists of numbers one comes before the other, or they are equal
+lower-cases : (xs ys : List ℕ) → (xs ≡ ys) ⊎ (Lower xs ys ⊎ Lower ys xs)
+lower-cases [] [] = inl refl
+lower-cases [] (y ∷ ys) = inr (inl tt)
+lower-cases (x ∷ xs) [] = inr (inr tt)
+lower-cases (x ∷ xs) (y ∷ ys) = go (cases-order x y) (lower-cases xs ys)
+  where
+    go : (x ≡ y) ⊎ ((x < y) ⊎ (y < x)) → (xs ≡ ys) ⊎ (Lower xs ys ⊎ Lower ys xs) → ((x ∷ xs) ≡ (y ∷ ys)) ⊎ (Lower (x ∷ xs) (y ∷ ys) ⊎ Lower (y ∷ ys) (x ∷ xs))
+    go (inr (inl l)) d = inr (inl (inl l))
+    go (inr (inr l)) d = inr (inr (inl l))
+    go (inl e) (inl d) = inl (ap₂ (λ (a : ℕ) (rest : List ℕ). a ∷ rest) e d)
+    go (inl e) (inr (inl d)) = inr (inl (inr (e, d)))
+    go (inl e) (inr (inr d)) = inr (inr (inr (sym e, d)))
+
+same-reported : (x y : Report) → _≡_ {A = List ℕ} (x .number ∷ x .values) (y .number ∷ y .values) → x ≡ y
+same-reported x y e =
+    let n : x .number ≡ y .number = cc in
+    let v : x .values ≡ y .values = cc in
+    λ i. record { number = n i; values = v i }
+
+-- there is one first offence at most
+pub first-unique : (e : ℕ → Bool) (N : Nfa) (s : ℕ → ℕ → Bool) (x y : Offence) → FirstOffence e N s x → FirstOffence e N s y → reported x ≡ reported y
+first-unique e N s x y f g =
+    ⊎-elim
+    (λ q. same-reported (reported x) (reported y) q)
+    (⊎-elim (λ b. absurd (g .first x b (f .offends))) (λ b. absurd (f .first y b (g .offends))))
+    (lower-cases (reported x .number ∷ reported x .values) (reported y .number ∷ reported y .values))

@@ -1,18 +1,17 @@
 -- Simulations: what they do to runs, and that the greatest one is a lawful order.
-use Prim.Native.Nat.{ℕ, zero, suc, _<_, _≤_}
+use Prim.Native.Nat.{ℕ}
 use mathlib.Core.Path.{_≡_, refl, sym, _∙_, ap, subst}
-use mathlib.Core.Bool.{Bool, true, false, _&&_, _||_, false≢true}
-use mathlib.Core.Logic.{_⊎_, inl, inr, ⊎-elim}
+use mathlib.Core.Bool.{Bool, true, false, _&&_}
 use mathlib.Core.List.{List, [], _∷_}
-use native.Mathlib.Omega.{arith}
 use lib.Dec.{eqb}
-use Rattle.std.proofs.shelf.Tests.{and-parts, and-from, and-left, and-right, or-cases, or-left, or-right, eq-eqb, eqb-true, cases-eq}
+use Rattle.std.proofs.shelf.Tests.{and-parts, and-from, and-left, and-right, eq-eqb, eqb-true}
 use Rattle.automata.specs.Nfa.{Nfa, Proper}
 use Rattle.automata.specs.Runs.{End, Arrow, Leads}
 use Rattle.automata.specs.Numbering.{exists, beside, Confined}
-use Rattle.automata.specs.Relations.{among}
+use Rattle.automata.specs.Relations.{among, any}
 use Rattle.automata.specs.Laws.{Simulation, Laws, Simulates, Lawful}
 use Rattle.automata.specs.Greatest.{InSome, Largest, Greatest, LeadsToEnd, KeepsRuns}
+use Rattle.automata.proofs.Elements.{any-find, any-from}
 use Rattle.automata.proofs.Numbered.{beside-confined}
 
 -- p and r exist and are related
@@ -40,25 +39,6 @@ among-right e o p r h = and-left (e p && e r) (o p r) (and-right (e p) (e r) h)
 pub among-both : (e : ℕ → Bool) (o : ℕ → ℕ → Bool) (p r : ℕ) → e p ≡ true → e r ≡ true → among e o p r ≡ o p r
 unfolding among
 among-both e o p r ep er = simp (ep, er)
-
--- some number below n passes the test
-some : (ℕ → Bool) → ℕ → Bool
-some f zero = false
-some f (suc n) = some f n || f n
-
-some-find : (f : ℕ → Bool) (n : ℕ) → some f n ≡ true → (k : ℕ) × (f k ≡ true)
-unfolding some
-some-find f zero e = absurd (false≢true e)
-some-find f (suc n) e = ⊎-elim (λ h. some-find f n h) (λ h. (n, h)) (or-cases (some f n) (f n) e)
-
-some-from : (f : ℕ → Bool) (n k : ℕ) → k < n → f k ≡ true → some f n ≡ true
-unfolding some
-some-from f zero k l e = absurd (omega arith)
-some-from f (suc n) k l e =
-    ⊎-elim
-    (λ q. or-right (some f n) (f n) (subst (λ (m : ℕ). f m ≡ true) q e))
-    (λ ne. or-left (some f n) (f n) (some-from f n k (omega arith) e))
-    (cases-eq k n)
 
 -- a simulation keeps runs
 pub simulation-runs : (N : Nfa) (s : ℕ → ℕ → Bool) → Simulation N s → (w : List ℕ) (p r : ℕ) → s p r ≡ true → LeadsToEnd N p w → LeadsToEnd N r w
@@ -88,19 +68,19 @@ module _ (e : ℕ → Bool) (N : Nfa) (k : Confined e N) where
 
   -- one relation after the other
   then : (ℕ → ℕ → Bool) → (ℕ → ℕ → Bool) → ℕ → ℕ → Bool
-  then s u p r = some (λ (q : ℕ). among e s p q && among e u q r) 64
+  then s u p r = any 64 (λ (q : ℕ). among e s p q && among e u q r)
 
   then-parts : (s u : ℕ → ℕ → Bool) (p r : ℕ) → then s u p r ≡ true → (q : ℕ) × (among e s p q ≡ true) × (among e u q r ≡ true)
   unfolding then
   then-parts s u p r h =
-      let q = some-find (λ (q : ℕ). among e s p q && among e u q r) 64 h in
-      let x = and-parts (among e s p (q .0)) (among e u (q .0) r) (q .1) in
+      let q = any-find 64 (λ (q : ℕ). among e s p q && among e u q r) h in
+      let x = and-parts (among e s p (q .0)) (among e u (q .0) r) (q .2) in
       (q .0, x .0, x .1)
 
   then-from : (s u : ℕ → ℕ → Bool) (p q r : ℕ) → among e s p q ≡ true → among e u q r ≡ true → then s u p r ≡ true
   unfolding then
   then-from s u p q r a b =
-      some-from (λ (q : ℕ). among e s p q && among e u q r) 64 q (k .small q (among-parts e s p q a .1)) (and-from (among e s p q) (among e u q r) a b)
+      any-from 64 (λ (q : ℕ). among e s p q && among e u q r) q (k .small q (among-parts e s p q a .1)) (and-from (among e s p q) (among e u q r) a b)
 
   then-simulation : (s u : ℕ → ℕ → Bool) → Simulation N (among e s) → Simulation N (among e u) → Simulation N (among e (then s u))
   then-simulation s u x y = record {

@@ -13,3 +13,4 @@ pub mod Offences
 pub mod Searches
 pub mod Greatest
 pub mod Refining
+pub mod Testing

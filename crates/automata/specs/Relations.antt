@@ -1,6 +1,6 @@
 -- Relations between numbers.
-use Prim.Native.Nat.{ℕ, _+_, _*_}
-use mathlib.Core.Bool.{Bool, cond, _&&_}
+use Prim.Native.Nat.{ℕ, zero, suc, _+_, _*_}
+use mathlib.Core.Bool.{Bool, false, cond, _&&_, _||_}
 use mathlib.Core.List.{List, [], _∷_}
 use lib.Dec.{ltb}
 use lib.ListN.{getD}
@@ -14,6 +14,11 @@ bits rows p r = has (getD rows p 0) r
 -- the relation o between the numbers e alone
 unfoldable pub among : (ℕ → Bool) → (ℕ → ℕ → Bool) → ℕ → ℕ → Bool
 among e o p r = (e p && e r) && o p r
+
+-- some number below n passes the test
+unfoldable pub any : ℕ → (ℕ → Bool) → Bool
+any zero f = false
+any (suc n) f = any n f || f n
 
 -- the sum of the rows, which is less as soon as a row has lost a bit
 abbrev pub total : List ℕ → ℕ
