@@ -23,3 +23,4 @@ pub mod Ranked
 pub mod Listed
 pub mod Matched
 pub mod Tested
+pub mod TestedCases

@@ -64,6 +64,8 @@ module _ (e : ℕ → Bool) (N : Nfa) (s : ℕ → ℕ → Bool) where
   first-report =
       otherwise (first 64 reflexive-at) (λ _. otherwise (first 64 transitive-at) (λ _. otherwise (first 64 ends-at) (λ _. first 64 arrows-at)))
 
--- what the test of the order o reports in a comparison of A and R: nothing where it is accepted
+-- what the test of the order o reports in a comparison of A and R: nothing where it is accepted; to unfold it is to
+-- unfold all that it computes with
 unfoldable pub tested : Nfa → Nfa → (ℕ → ℕ → Bool) → Option Report
+unfolding first reflexive-at transitive-at₃ transitive-at₂ transitive-at ends-at₂ ends-at arrows-at₄ arrows-at₃ arrows-at₂ arrows-at first-report exists beside among any
 tested A R o = first-report (exists A R) (beside A R) (among (exists A R) o)

@@ -1,9 +1,10 @@
 ghost use mathlib.Core.Path.{_≡_};
 ghost use mathlib.Core.Bool.{true, false, not, _&&_};
 ghost use mathlib.Core.Logic.{_↔_};
-ghost use mathlib.Core.List.{List, []};
+ghost use mathlib.Core.List.{[]};
+ghost use mathlib.Core.Option.{none, some};
 ghost use Prim.Native.Nat.{ℕ, _<_};
-ghost use lib.ListN.{length, getD};
+ghost use lib.ListN.{getD};
 ghost use Rattle.std.specs.Options.{Cases as BySome};
 ghost use Rattle.std.specs.Results.{Cases};
 ghost use Rattle.std.specs.Vec.{made};
@@ -15,6 +16,8 @@ ghost use Rattle.automata.specs.Offences.{BreaksTransitive, BreaksEnds};
 ghost use Rattle.automata.specs.Searches.{StopsReflexive, StopsTransitive, StopsEnds, StopsArrows};
 ghost use Rattle.automata.specs.Greatest.{KeepsRuns};
 ghost use Rattle.automata.specs.Refining.{Matches};
+ghost use Rattle.automata.specs.Testing.{tested};
+ghost use Rattle.plan.specs.Refusals.{report-of};
 ghost use Rattle.order.specs.Verdicts.{Reports, Rejected};
 
 use crate::greatest::empty_rows;
@@ -209,6 +212,7 @@ fn first_offence(states: u64, ends: u64, targets: &[u64; 1664], rows: &[u64; 64]
 /// states at which it is, compared number by number: nothing that comes before in this order offends.
 pub fn test<P: Plan, R: Plan, O: Order>(programme: &P, rule: &R, order: &O) -> Result<(), Refusal>
     ensures laws { λ v. ⌜ Cases v (λ _. Lawful (P·Plan .meaning (now (programme .entry))) (R·Plan .meaning (now (rule .entry))) (O·Order .below (now (order .entry)))) (λ e. Rejected (P·Plan .meaning (now (programme .entry))) (R·Plan .meaning (now (rule .entry))) (O·Order .below (now (order .entry))) e) ⌝ }
+    ensures report { λ v. ⌜ Cases v (λ _. tested (P·Plan .meaning (now (programme .entry))) (R·Plan .meaning (now (rule .entry))) (O·Order .below (now (order .entry))) ≡ none) (λ e. tested (P·Plan .meaning (now (programme .entry))) (R·Plan .meaning (now (rule .entry))) (O·Order .below (now (order .entry))) ≡ some (report-of e)) ⌝ }
     ensures runs { λ v. ⌜ made v (λ _. KeepsRuns (P·Plan .meaning (now (programme .entry))) (R·Plan .meaning (now (rule .entry))) (O·Order .below (now (order .entry)))) ⌝ }
 {
     let states = states(programme, rule);

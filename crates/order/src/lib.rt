@@ -13,3 +13,6 @@ pub mod rows;
 pub mod same;
 mod sets;
 mod sources;
+
+#[cfg(test)]
+mod tests;
