@@ -1,9 +1,9 @@
 -- Sets of numbers below 64 gone through element by element, and taken from one another.
 use Prim.Native.Nat.{ℕ, zero, suc, _+_, _*_, _-_, _/_, _%_, _^_, _<_, _≤_}
 use mathlib.Core.Path.{_≡_, refl, sym, _∙_, ap, subst}
-use mathlib.Core.Bool.{Bool, true, false, cond, not, _&&_, _||_}
-use mathlib.Core.Logic.{_⊎_, inl, inr, ⊎-elim, _↔_, _≢_}
-use mathlib.Core.List.{List, [], _∷_}
+use mathlib.Core.Bool.{Bool, true, false, cond, not, _&&_}
+use mathlib.Core.Logic.{⊎-elim, _↔_, _≢_}
+use mathlib.Core.List.{List}
 use native.Mathlib.Omega.{arith}
 use lib.Bits.{bitAnd, bitOr, and-le-l}
 use lib.Dec.{eqb}
@@ -12,12 +12,25 @@ use lib.Seq.{getD-set-same, getD-set-other}
 use Rattle.std.proofs.shelf.Tests.{cases-eq, cases-lt, cases-bool, eq-eqb, ne-eqb, both-ways, and-parts, and-from, or-cases, or-left, or-right, cond-true, cond-false, not-true, not-from-false}
 use Rattle.automata.specs.Sets.{has}
 use Rattle.automata.specs.Relations.{bits, any}
-use Rattle.automata.proofs.Bits.{has-and, has-not, has-zero, has-along, has-past, has-small, trailing-has}
+use Rattle.automata.proofs.Bits.{has-and, has-not, has-zero, has-along, has-small, trailing-has}
 
 pub same-bool : (a b : Bool) → (a ≡ true → b ≡ true) → (b ≡ true → a ≡ true) → a ≡ b
 same-bool true b f g = sym (f refl)
 same-bool false true f g = g refl
 same-bool false false f g = refl
+
+-- a test with itself refused, with no, and with yes
+pub not-both : (b : Bool) → (b && not b) ≡ false
+not-both true = refl
+not-both false = refl
+
+pub and-no : (b : Bool) → (b && false) ≡ false
+and-no true = refl
+and-no false = refl
+
+pub and-yes : (b : Bool) → (b && true) ≡ b
+and-yes true = refl
+and-yes false = refl
 
 -- not true, so false
 pub else-false : (b : Bool) → (b ≡ true → ⊥) → b ≡ false
@@ -63,14 +76,15 @@ less-gone r′ r u l = l u ∙ cond-true (eqb u u) false (has r u) (eq-eqb u u r
 
 -- a set without another
 pub has-minus : (a b r : ℕ) → a < 2 ^ 64 → b < 2 ^ 64 → (has (bitAnd a (2 ^ 64 - 1 - b)) r ≡ true) ↔ ((has a r ≡ true) × (has b r ≡ false))
-has-minus a b r ha hb =
-    ((λ h.
+has-minus a b r ha hb = (
+  (λ h.
       let q = and-parts (has a r) (has (2 ^ 64 - 1 - b) r) (sym (has-and a (2 ^ 64 - 1 - b) r) ∙ h) in
       let l : r < 64 = has-small 64 a r ha (q .0) in
-      (q .0, not-true (has b r) (sym (has-not 64 r b l hb) ∙ q .1)))
-    , (λ q.
+      (q .0, not-true (has b r) (sym (has-not 64 r b l hb) ∙ q .1))),
+  (λ q.
       let l : r < 64 = has-small 64 a r ha (q .0) in
-      has-and a (2 ^ 64 - 1 - b) r ∙ and-from (has a r) (has (2 ^ 64 - 1 - b) r) (q .0) (has-not 64 r b l hb ∙ not-from-false (has b r) (q .1))))
+      has-and a (2 ^ 64 - 1 - b) r ∙ and-from (has a r) (has (2 ^ 64 - 1 - b) r) (q .0) (has-not 64 r b l hb ∙ not-from-false (has b r) (q .1))),
+)
 
 -- sets without a common element
 pub apart-zero : (a b u : ℕ) → bitAnd a b ≡ 0 → has b u ≡ true → has a u ≡ false
@@ -93,9 +107,10 @@ zero-none x r z = ap (λ (n : ℕ). has n r) z ∙ has-zero r
 
 -- rows past the last one and past their width
 pub bits-within : (rows : List ℕ) → length rows ≡ 64 → ((k : ℕ) → getD rows k 0 < 2 ^ 64) → (p r : ℕ) → bits rows p r ≡ true → (p < 64) × (r < 64)
-bits-within rows n f p r h =
-    (⊎-elim (λ l. l) (λ l. absurd (both-ways (bits rows p r) (ap (λ (m : ℕ). has m r) (List·getD-eq-default rows 0 (omega arith)) ∙ has-zero r) h)) (cases-lt p 64)
-    , has-small 64 (getD rows p 0) r (f p) h)
+bits-within rows n f p r h = (
+  ⊎-elim (λ l. l) (λ l. absurd (both-ways (bits rows p r) (ap (λ (m : ℕ). has m r) (List·getD-eq-default rows 0 (omega arith)) ∙ has-zero r) h)) (cases-lt p 64),
+  has-small 64 (getD rows p 0) r (f p) h,
+)
 
 -- A row filled number by number with what passes a test.
 pub record RowFilled (f : ℕ → Bool) (n row : ℕ) : Type 0 where
@@ -111,7 +126,7 @@ row-yes f n row y i e q = record {
       (λ z. cond-true (eqb k n) true (has row k) (eq-eqb k n z) ∙ sym (ap f z ∙ e))
       (λ ne. cond-false (eqb k n) true (has row k) (ne-eqb k n ne) ∙ i .done k (omega arith))
       (cases-eq k n);
-  rest = λ k l. bit k ∙ cond-false (eqb k n) true (has row k) (ne-eqb k n (λ z. omega arith)) ∙ i .rest k (omega arith)
+  rest = λ k l. bit k ∙ cond-false (eqb k n) true (has row k) (ne-eqb k n (λ z. omega arith)) ∙ i .rest k (omega arith);
 }
   where
     bit : (k : ℕ) → has (bitOr row y) k ≡ cond (eqb k n) true (has row k)
@@ -120,7 +135,7 @@ row-yes f n row y i e q = record {
 pub row-no : (f : ℕ → Bool) (n row : ℕ) → RowFilled f n row → f n ≡ false → RowFilled f (n + 1) row
 row-no f n row i e = record {
   done = λ k l. ⊎-elim (λ z. i .rest k (omega arith) ∙ sym (ap f z ∙ e)) (λ ne. i .done k (omega arith)) (cases-eq k n);
-  rest = λ k l. i .rest k (omega arith)
+  rest = λ k l. i .rest k (omega arith);
 }
 
 pub row-end : (f : ℕ → Bool) (n row : ℕ) → RowFilled f n row → ((k : ℕ) → n ≤ k → f k ≡ false) → (k : ℕ) → has row k ≡ f k
@@ -142,7 +157,7 @@ rows-step f rows n v i l h = record {
       (λ e. subst (λ (m : ℕ). bits (set rows n v) m r ≡ f m r) (sym e) (ap (λ (m : ℕ). has m r) (getD-set-same rows n v 0 (omega (arith, i .size))) ∙ h r))
       (λ ne. ap (λ (m : ℕ). has m r) (getD-set-other rows n k v 0 ne) ∙ i .done k (omega arith) r)
       (cases-eq k n);
-  rest = λ k lk. let ne : k ≢ n = (λ e. omega arith) in getD-set-other rows n k v 0 ne ∙ i .rest k (omega arith)
+  rest = λ k lk. let ne : k ≢ n = (λ e. omega arith) in getD-set-other rows n k v 0 ne ∙ i .rest k (omega arith);
 }
 
 pub rows-end : (f : ℕ → ℕ → Bool) (rows : List ℕ) (n : ℕ) → RowsFilled f rows n → 64 ≤ n → n ≤ 64 → ((p r : ℕ) → 64 ≤ p → f p r ≡ false) → (p r : ℕ) → bits rows p r ≡ f p r
@@ -168,10 +183,10 @@ table-step f table n v i l e = record {
   size = length-set table n v ∙ i .size;
   done = λ s c lc h. ⊎-elim
       (λ q.
-        let es : n / 26 ≡ s = omega arith in
-        let ec : n % 26 ≡ c = omega arith in
-        subst (λ (m : ℕ). getD (set table n v) m 0 ≡ f s c) (sym q)
-          (getD-set-same table n v 0 (omega (arith, i .size)) ∙ e ∙ ap (λ (m : ℕ). f m (n % 26)) es ∙ ap (λ (m : ℕ). f s m) ec))
+      let es : n / 26 ≡ s = omega arith in
+      let ec : n % 26 ≡ c = omega arith in
+      subst (λ (m : ℕ). getD (set table n v) m 0 ≡ f s c) (sym q)
+      (getD-set-same table n v 0 (omega (arith, i .size)) ∙ e ∙ ap (λ (m : ℕ). f m (n % 26)) es ∙ ap (λ (m : ℕ). f s m) ec))
       (λ ne. getD-set-other table n (s * 26 + c) v 0 ne ∙ i .done s c lc (omega arith))
-      (cases-eq (s * 26 + c) n)
+      (cases-eq (s * 26 + c) n);
 }

@@ -1,16 +1,15 @@
 -- The plan that a set of ends and a table of targets give is the two plans beside each other.
-use Prim.Native.Nat.{ℕ, _+_, _*_, _<_, _≤_}
-use mathlib.Core.Path.{_≡_, refl, sym, _∙_, ap, subst, fun-ext}
-use mathlib.Core.Bool.{Bool, cond}
+use Prim.Native.Nat.{ℕ, _+_, _*_, _<_}
+use mathlib.Core.Path.{_≡_, sym, _∙_, subst, fun-ext}
+use mathlib.Core.Bool.{Bool}
 use mathlib.Core.Logic.{⊎-elim}
 use mathlib.Core.List.{List}
 use native.Mathlib.Omega.{arith}
-use lib.Dec.{ltb}
 use lib.ListN.{length, getD, List·getD-eq-default}
 use Rattle.std.proofs.shelf.Tests.{cases-lt, lt-ltb, le-ltb}
 use Rattle.automata.specs.Sets.{has}
 use Rattle.automata.specs.Nfa.{Nfa, Proper}
-use Rattle.automata.specs.Numbering.{exists, beside, Confined}
+use Rattle.automata.specs.Numbering.{exists, beside}
 use Rattle.automata.specs.Relations.{bits, among, cell, listed}
 use Rattle.automata.proofs.Numbered.{beside-past, beside-unknown}
 
@@ -21,10 +20,10 @@ module _ (A R : Nfa) (pa : Proper A) (pr : Proper R) (table : List ℕ) (n : len
   cell-beside s c =
       ⊎-elim
       (λ lc. rw (lt-ltb c 26 lc)
-        (⊎-elim
-          (λ ls. is s c ls lc)
-          (λ ls. List·getD-eq-default table 0 (omega arith) ∙ sym (beside-past A R pa pr s c ls))
-          (cases-lt s 64)))
+      (⊎-elim
+      (λ ls. is s c ls lc)
+      (λ ls. List·getD-eq-default table 0 (omega arith) ∙ sym (beside-past A R pa pr s c ls))
+      (cases-lt s 64)))
       (λ lc. rw (le-ltb c 26 lc) (sym (beside-unknown A R pa pr s c lc)))
       (cases-lt c 26)
 

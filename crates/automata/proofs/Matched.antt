@@ -1,21 +1,19 @@
 -- The law of arrows over a table of targets and rows of pairs.
-use Prim.Native.Nat.{ℕ, _+_, _*_, _-_, _^_, _<_, _≤_}
+use Prim.Native.Nat.{ℕ, _+_, _*_, _^_, _<_, _≤_}
 use mathlib.Core.Path.{_≡_, refl, sym, _∙_, ap, subst}
-use mathlib.Core.Bool.{Bool, true, false, cond}
-use mathlib.Core.Logic.{_⊎_, inl, inr, ⊎-elim, _↔_}
+use mathlib.Core.Bool.{true}
+use mathlib.Core.Logic.{⊎-elim, _↔_}
 use mathlib.Core.List.{List}
 use native.Mathlib.Omega.{arith}
 use lib.Bits.{bitAnd}
-use lib.Dec.{ltb}
 use lib.ListN.{length, getD, List·getD-eq-default}
-use Rattle.std.proofs.shelf.Tests.{cases-lt, cases-eq, cases-bool, lt-ltb, le-ltb, both-ways}
+use Rattle.std.proofs.shelf.Tests.{cases-lt, cases-eq, le-ltb, both-ways}
 use Rattle.automata.specs.Sets.{has}
-use Rattle.automata.specs.Nfa.{Nfa}
 use Rattle.automata.specs.Runs.{Arrow}
 use Rattle.automata.specs.Relations.{bits, cell, listed}
 use Rattle.automata.specs.Laws.{KeepsArrows}
 use Rattle.automata.specs.Offences.{BreaksArrows}
-use Rattle.automata.specs.Refining.{arc, Sources, Matches}
+use Rattle.automata.specs.Refining.{Sources, Matches}
 use Rattle.automata.proofs.Bits.{has-zero, has-small}
 use Rattle.automata.proofs.Elements.{apart-zero, meet-element, bits-within}
 use Rattle.automata.proofs.Transposed.{cell-known}
@@ -29,10 +27,11 @@ pub arrow-within : (targets : List ℕ) → length targets ≡ 1664 → ((k : �
 arrow-within targets n fit ends p c t a =
     ⊎-elim
     (λ lc.
-      let b : has (getD targets (p * 26 + c) 0) t ≡ true = ap (λ (m : ℕ). has m t) (sym (cell-known targets p c lc)) ∙ a in
-      (⊎-elim (λ l. l) (λ l. absurd (none (getD targets (p * 26 + c) 0) (List·getD-eq-default targets 0 (omega arith)) b)) (cases-lt p 64)
-      , lc
-      , has-small 64 (getD targets (p * 26 + c) 0) t (fit (p * 26 + c)) b))
+    let b : has (getD targets (p * 26 + c) 0) t ≡ true = ap (λ (m : ℕ). has m t) (sym (cell-known targets p c lc)) ∙ a in (
+      ⊎-elim (λ l. l) (λ l. absurd (none (getD targets (p * 26 + c) 0) (List·getD-eq-default targets 0 (omega arith)) b)) (cases-lt p 64),
+      lc,
+      has-small 64 (getD targets (p * 26 + c) 0) t (fit (p * 26 + c)) b,
+    ))
     (λ lc. absurd (none (cell targets p c) (cell-unknown targets p c lc) a))
     (cases-lt c 26)
   where
@@ -67,12 +66,13 @@ pub match-step : (f rows kept kept′ : List ℕ) (n : ℕ) → Matched f rows k
     ((p r : ℕ) → (bits kept′ p r ≡ true) ↔ ((bits kept p r ≡ true) × Matches f n (getD rows n 0) p r)) → Matched f rows kept′ (n + 1)
 match-step f rows kept kept′ n i size h = record {
   size = size;
-  pairs = λ p r.
-      ((λ b.
+  pairs = λ p r. (
+    (λ b.
         let x = h p r .0 b in
         let y = i .pairs p r .0 (x .0) in
-        (y .0, λ t l. ⊎-elim (λ e. subst (λ (k : ℕ). Matches f k (getD rows k 0) p r) (sym e) (x .1)) (λ ne. y .1 t (omega arith)) (cases-eq t n)))
-      , (λ x. h p r .1 (i .pairs p r .1 (x .0, λ t l. x .1 t (omega arith)), x .1 n (omega arith))))
+        (y .0, λ t l. ⊎-elim (λ e. subst (λ (k : ℕ). Matches f k (getD rows k 0) p r) (sym e) (x .1)) (λ ne. y .1 t (omega arith)) (cases-eq t n))),
+    (λ x. h p r .1 (i .pairs p r .1 (x .0, λ t l. x .1 t (omega arith)), x .1 n (omega arith))),
+  );
 }
 
 pub match-end : (f rows kept : List ℕ) (n : ℕ) → Matched f rows kept n → n ≡ 64 →

@@ -1,8 +1,8 @@
 -- Rows that lose the pairs whose arrows to one number are not matched.
-use Prim.Native.Nat.{ℕ, zero, suc, _+_, _*_, _-_, _^_, _<_, _≤_, min}
+use Prim.Native.Nat.{ℕ, zero, suc, _+_, _*_, _^_, _<_, _≤_, min}
 use mathlib.Core.Path.{_≡_, refl, sym, _∙_, ap, subst}
 use mathlib.Core.Bool.{Bool, true, false, cond, not, _&&_, _||_}
-use mathlib.Core.Logic.{_⊎_, inl, inr, ⊎-elim, _↔_, _≢_}
+use mathlib.Core.Logic.{⊎-elim, _↔_, _≢_}
 use mathlib.Core.List.{List, [], _∷_}
 use native.Mathlib.Omega.{arith}
 use lib.Bits.{bitAnd, bitOr, and-le-l}
@@ -14,7 +14,7 @@ use Rattle.automata.specs.Sets.{has}
 use Rattle.automata.specs.Relations.{bits, total}
 use Rattle.automata.specs.Refining.{arc, Into, Matches}
 use Rattle.automata.proofs.Bits.{has-or, has-and, has-zero, has-along}
-use Rattle.automata.proofs.Elements.{Less, less-was, less-other, less-gone}
+use Rattle.automata.proofs.Elements.{Less, less-was, less-other, less-gone, not-both, and-yes}
 
 -- The sources of u under the commands below n joined to the sets of each command.
 pub record Joined (f able₀ able : List ℕ) (u n : ℕ) : Type 0 where
@@ -31,10 +31,10 @@ join-step f able₀ able u n i l = record {
   size = length-set able n (bitOr (getD able n 0) (getD f (u * 26 + n) 0)) ∙ i .size;
   done = λ c lc. ⊎-elim
       (λ e. subst (λ (m : ℕ). getD (set able n (bitOr (getD able n 0) (getD f (u * 26 + n) 0))) m 0 ≡ bitOr (getD able₀ m 0) (getD f (u * 26 + m) 0)) (sym e)
-        (getD-set-same able n (bitOr (getD able n 0) (getD f (u * 26 + n) 0)) 0 (omega (arith, i .size)) ∙ ap (λ (m : ℕ). bitOr m (getD f (u * 26 + n) 0)) (i .rest n (omega arith))))
+      (getD-set-same able n (bitOr (getD able n 0) (getD f (u * 26 + n) 0)) 0 (omega (arith, i .size)) ∙ ap (λ (m : ℕ). bitOr m (getD f (u * 26 + n) 0)) (i .rest n (omega arith))))
       (λ ne. getD-set-other able n c (bitOr (getD able n 0) (getD f (u * 26 + n) 0)) 0 ne ∙ i .done c (omega arith))
       (cases-eq c n);
-  rest = λ c lc. let ne : c ≢ n = (λ e. omega arith) in getD-set-other able n c (bitOr (getD able n 0) (getD f (u * 26 + n) 0)) 0 ne ∙ i .rest c (omega arith)
+  rest = λ c lc. let ne : c ≢ n = (λ e. omega arith) in getD-set-other able n c (bitOr (getD able n 0) (getD f (u * 26 + n) 0)) 0 ne ∙ i .rest c (omega arith);
 }
 
 -- For each command the numbers with an arrow under it to an element of the set that is no more in the rest.
@@ -49,7 +49,7 @@ ahead-start f able set n z = record {
   size = n;
   was = λ k e. e;
   right = λ c r l e. absurd (both-ways (has (getD able c 0) r) (ap (λ (m : ℕ). has m r) (z c) ∙ has-zero r) e);
-  whole = λ c r u l s n a. absurd (both-ways (has set u) n s)
+  whole = λ c r u l s n a. absurd (both-ways (has set u) n s);
 }
 
 pub ahead-step : (f able able′ : List ℕ) (set rest u r′ : ℕ) → Ahead f able set rest → has rest u ≡ true → u < 64 → Less r′ rest u → length able′ ≡ 26 →
@@ -63,7 +63,7 @@ ahead-step f able able′ set rest u r′ i e l m n q = record {
       ⊎-elim
       (λ z. or-right (has (getD able c 0) r) (has (getD f (u * 26 + c) 0) r) (subst (λ (k : ℕ). arc f r c k ≡ true) z a))
       (λ ne. or-left (has (getD able c 0) r) (has (getD f (u * 26 + c) 0) r) (i .whole c r v lc s (sym (less-other r′ rest u m v ne) ∙ n) a))
-      (cases-eq v u)
+      (cases-eq v u);
 }
   where
     bit : (c r : ℕ) → c < 26 → has (getD able′ c 0) r ≡ (has (getD able c 0) r || has (getD f (u * 26 + c) 0) r)
@@ -77,14 +77,6 @@ pub total-set : (l : List ℕ) (i v : ℕ) → i < length l → total (set l i v
 total-set [] i v h = absurd (omega arith)
 total-set (x ∷ l) zero v h = omega arith
 total-set (x ∷ l) (suc i) v h = omega (arith, total-set l i v (omega arith))
-
-not-both : (b : Bool) → (b && not b) ≡ false
-not-both true = refl
-not-both false = refl
-
-and-yes : (b : Bool) → (b && true) ≡ b
-and-yes true = refl
-and-yes false = refl
 
 -- The rows of the users that are no more in the rest narrowed to the able.
 pub record Narrowed (r₀ rows : List ℕ) (users able changed rest : ℕ) : Type 0 where
@@ -100,7 +92,7 @@ narrow-start r users able n = record {
   each = λ p. let q = not-both (has users p) in simp q;
   kept = λ p h. refl;
   less = omega arith;
-  was = λ k e. e
+  was = λ k e. e;
 }
 
 module _ (r₀ rows : List ℕ) (users able changed rest p r′ : ℕ) (i : Narrowed r₀ rows users able changed rest) (e : has rest p ≡ true) (l : p < 64) (m : Less r′ rest p) where
@@ -119,11 +111,11 @@ module _ (r₀ rows : List ℕ) (users able changed rest p r′ : ℕ) (i : Narr
     size = i .size;
     each = λ k. ⊎-elim
         (λ z. subst (λ (n : ℕ). getD rows n 0 ≡ cond (has users n && not (has r′ n)) (bitAnd (getD r₀ n 0) able) (getD r₀ n 0)) (sym z)
-          (sym q ∙ ap (λ (n : ℕ). bitAnd n able) still ∙ sym mine))
+        (sym q ∙ ap (λ (n : ℕ). bitAnd n able) still ∙ sym mine))
         (λ ne. others k ne) (cases-eq k p);
     kept = i .kept;
     less = i .less;
-    was = λ k h. i .was k (less-was r′ rest p m k h)
+    was = λ k h. i .was k (less-was r′ rest p m k h);
   }
 
   pub narrow-change : (y : ℕ) → y ≡ 2 ^ p → (bitAnd (getD rows p 0) able ≡ getD rows p 0 → ⊥) → Narrowed r₀ (set rows p (bitAnd (getD rows p 0) able)) users able (bitOr changed y) r′
@@ -131,14 +123,14 @@ module _ (r₀ rows : List ℕ) (users able changed rest p r′ : ℕ) (i : Narr
     size = length-set rows p (bitAnd (getD rows p 0) able) ∙ i .size;
     each = λ k. ⊎-elim
         (λ z. subst (λ (n : ℕ). getD (set rows p (bitAnd (getD rows p 0) able)) n 0 ≡ cond (has users n && not (has r′ n)) (bitAnd (getD r₀ n 0) able) (getD r₀ n 0)) (sym z)
-          (getD-set-same rows p (bitAnd (getD rows p 0) able) 0 fits ∙ ap (λ (n : ℕ). bitAnd n able) still ∙ sym mine))
+        (getD-set-same rows p (bitAnd (getD rows p 0) able) 0 fits ∙ ap (λ (n : ℕ). bitAnd n able) still ∙ sym mine))
         (λ ne. getD-set-other rows p k (bitAnd (getD rows p 0) able) 0 ne ∙ others k ne) (cases-eq k p);
     kept = λ k h. ⊎-elim
         (λ z. absurd (both-ways (has (bitOr changed y) k) h (bit k ∙ cond-true (eqb k p) true (has changed k) (eq-eqb k p z))))
         (λ ne. getD-set-other rows p k (bitAnd (getD rows p 0) able) 0 ne ∙ i .kept k (sym (bit k ∙ cond-false (eqb k p) true (has changed k) (ne-eqb k p ne)) ∙ h))
         (cases-eq k p);
     less = omega (arith, i .less, total-set rows p (bitAnd (getD rows p 0) able) fits, and-le-l (getD rows p 0) able, ne₀);
-    was = λ k h. i .was k (less-was r′ rest p m k h)
+    was = λ k h. i .was k (less-was r′ rest p m k h);
   }
     where
       fits : p < length rows
@@ -173,7 +165,7 @@ settle-start f able r t n = record {
   size = n;
   pairs = λ p q. ((λ h. (h, λ c l a. absurd (omega arith))), λ x. x .0);
   kept = λ p h. refl;
-  less = omega arith
+  less = omega arith;
 }
 
 module _ (f able r₀ rows : List ℕ) (t c changed : ℕ) (i : Settled f able r₀ rows t c changed) (rows′ : List ℕ) (d : ℕ) (size : length rows′ ≡ 64)
@@ -207,23 +199,27 @@ module _ (f able r₀ rows : List ℕ) (t c changed : ℕ) (i : Settled f able r
   pub settle-step : Settled f able r₀ rows′ t (c + 1) (bitOr changed d)
   settle-step = record {
     size = size;
-    pairs = λ p r.
-        ((λ h.
+    pairs = λ p r. (
+      (λ h.
           let x = left p r h in
-          let y = i .pairs p r .0 (x .0) in
-          (y .0, λ e l a. ⊎-elim
-            (λ q. subst (λ (n : ℕ). has (getD able n 0) r ≡ true) (sym q) (x .1 (subst (λ (n : ℕ). arc f p n t ≡ true) q a)))
-            (λ ne. y .1 e (omega arith) a)
-            (cases-eq e c)))
-        , (λ x. stays p r (i .pairs p r .1 (x .0, λ e l a. x .1 e (omega arith) a)) (x .1 c (omega arith))));
+          let y = i .pairs p r .0 (x .0) in (
+            y .0,
+            λ e l a. ⊎-elim
+                (λ q. subst (λ (n : ℕ). has (getD able n 0) r ≡ true) (sym q) (x .1 (subst (λ (n : ℕ). arc f p n t ≡ true) q a)))
+                (λ ne. y .1 e (omega arith) a)
+                (cases-eq e c),
+          )),
+      (λ x. stays p r (i .pairs p r .1 (x .0, λ e l a. x .1 e (omega arith) a)) (x .1 c (omega arith))),
+    );
     kept = λ p h. kept p (parts p h .1) ∙ i .kept p (parts p h .0);
-    less = omega (arith, i .less, one-of changed d)
+    less = omega (arith, i .less, one-of changed d);
   }
 
 -- with the numbers that have an arrow into the set as the able
 pub settle-end : (f able r₀ rows : List ℕ) (t n changed set : ℕ) → Settled f able r₀ rows t n changed → 26 ≤ n → n ≤ 26 →
     ((c r : ℕ) → c < 26 → (has (getD able c 0) r ≡ true) ↔ Into f c set r) →
     (p r : ℕ) → (bits rows p r ≡ true) ↔ ((bits r₀ p r ≡ true) × Matches f t set p r)
-settle-end f able r₀ rows t n changed set i l u h p r =
-    ((λ b. let x = i .pairs p r .0 b in (x .0, λ c lc a. h c r lc .0 (x .1 c (omega arith) a)))
-    , (λ x. i .pairs p r .1 (x .0, λ c lc a. h c r (omega arith) .1 (x .1 c (omega arith) a))))
+settle-end f able r₀ rows t n changed set i l u h p r = (
+  (λ b. let x = i .pairs p r .0 b in (x .0, λ c lc a. h c r lc .0 (x .1 c (omega arith) a))),
+  (λ x. i .pairs p r .1 (x .0, λ c lc a. h c r (omega arith) .1 (x .1 c (omega arith) a))),
+)

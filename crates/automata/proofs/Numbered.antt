@@ -1,8 +1,8 @@
 -- The numbering of a comparison: the sets that code makes of two plans' sets, and what exists.
-use Prim.Native.Nat.{ℕ, zero, suc, _+_, _*_, _-_, _/_, _%_, _^_, _<_, _≤_}
-use mathlib.Core.Path.{_≡_, refl, sym, _∙_, ap, subst}
-use mathlib.Core.Bool.{Bool, true, false, cond, not, _&&_, _||_}
-use mathlib.Core.Logic.{_⊎_, inl, inr, ⊎-elim}
+use Prim.Native.Nat.{ℕ, _+_, _*_, _-_, _/_, _%_, _^_, _<_, _≤_}
+use mathlib.Core.Path.{_≡_, refl, sym, _∙_, ap}
+use mathlib.Core.Bool.{Bool, true, false, cond, _&&_, _||_}
+use mathlib.Core.Logic.{⊎-elim}
 use mathlib.Core.List.{List, [], _∷_}
 use native.Mathlib.Omega.{arith}
 use native.Mathlib.Nat.{div-eq-of-lt}
@@ -10,7 +10,7 @@ use lib.Bits.{bitOr}
 use lib.Dec.{ltb, leb}
 use lib.Pow.{pow-pos, pow-mono}
 use Rattle.std.proofs.shelf.Bits.{one-shl}
-use Rattle.std.proofs.shelf.Tests.{cases-lt, lt-ltb, le-ltb, ltb-true, le-leb, lt-leb, leb-true, eq-eqb, and-parts, and-right, or-cases, both-ways}
+use Rattle.std.proofs.shelf.Tests.{cases-lt, lt-ltb, le-ltb, ltb-true, le-leb, lt-leb, leb-true, eq-eqb, and-parts, or-cases, both-ways}
 use Rattle.automata.specs.Sets.{has}
 use Rattle.automata.specs.Nfa.{Nfa, Proper}
 use Rattle.automata.specs.Runs.{Arrow, Leads}
@@ -22,8 +22,8 @@ has-first : (n k : ℕ) → has (2 ^ n - 1) k ≡ ltb k n
 has-first n k =
     ⊎-elim
     (λ h. let z : 0 / 2 ^ k ≡ 0 = div-eq-of-lt (pow-pos k) in
-      let e : 2 ^ n - 1 ≡ 2 ^ n - 1 - 0 = omega arith in
-      rw (lt-ltb k n h) (eq-eqb ((2 ^ n - 1) / 2 ^ k % 2) 1 (ap (λ (m : ℕ). m / 2 ^ k % 2) e ∙ bit-not n k 0 h (pow-pos n) ∙ ap (λ (m : ℕ). 1 - m % 2) z)))
+    let e : 2 ^ n - 1 ≡ 2 ^ n - 1 - 0 = omega arith in
+    rw (lt-ltb k n h) (eq-eqb ((2 ^ n - 1) / 2 ^ k % 2) 1 (ap (λ (m : ℕ). m / 2 ^ k % 2) e ∙ bit-not n k 0 h (pow-pos n) ∙ ap (λ (m : ℕ). 1 - m % 2) z)))
     (λ h. rw (le-ltb k n h) (has-past n (2 ^ n - 1) k (omega (arith, pow-pos n)) h))
     (cases-lt k n)
 
@@ -131,10 +131,11 @@ module _ (A R : Nfa) (pa : Proper A) (pr : Proper R) where
 
   -- only states that exist, and commands that exist, have targets
   bounded : (B : Nfa) → Proper B → (p c t : ℕ) → Arrow B p c t → (p < B .count) × (t < B .count) × (c < 26)
-  bounded B pb p c t a =
-      (⊎-elim (λ l. l) (λ l. absurd (none (pb .stateless p c l))) (cases-lt p (B .count))
-      , has-small (B .count) (B .targets p c) t (pb .within p c) a
-      , ⊎-elim (λ l. l) (λ l. absurd (none (pb .unknown p c l))) (cases-lt c 26))
+  bounded B pb p c t a = (
+    ⊎-elim (λ l. l) (λ l. absurd (none (pb .stateless p c l))) (cases-lt p (B .count)),
+    has-small (B .count) (B .targets p c) t (pb .within p c) a,
+    ⊎-elim (λ l. l) (λ l. absurd (none (pb .unknown p c l))) (cases-lt c 26),
+  )
     where
       none : B .targets p c ≡ 0 → ⊥
       none z = both-ways (has (B .targets p c) t) (ap (λ (n : ℕ). has n t) z ∙ has-zero t) a
@@ -153,7 +154,7 @@ module _ (A R : Nfa) (pa : Proper A) (pr : Proper R) where
     command = λ p c t a. ⊎-elim
         (λ l. bounded A pa p c t (arrow-left A R p c t l a) .2)
         (λ l. bounded R pr (p - 32) c (t - 32) (arrow-right A R p c t l a .1) .2)
-        (cases-lt p 32)
+        (cases-lt p 32);
   }
 
   -- the runs of each plan are the runs between its numbers

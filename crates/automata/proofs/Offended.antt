@@ -1,7 +1,7 @@
 -- The first offence, law by law: what stands before it in the order of report.
 use Prim.Native.Nat.{ℕ, _<_}
-use mathlib.Core.Path.{_≡_, refl, sym, _∙_, ap, ap₂, subst}
-use mathlib.Core.Bool.{Bool, true, false}
+use mathlib.Core.Path.{_≡_, refl, sym, ap₂, subst}
+use mathlib.Core.Bool.{Bool}
 use mathlib.Core.Logic.{_⊎_, inl, inr, ⊎-elim}
 use mathlib.Core.List.{List, [], _∷_}
 use native.Mathlib.Omega.{arith}
@@ -75,7 +75,7 @@ module _ (e : ℕ → Bool) (N : Nfa) (s : ℕ → ℕ → Bool) where
       before (not-transitive k i j) b =
           first-differs (λ k. Clear e N s (not-transitive k i j)) k p (λ l. x .1 k l i j)
           (first-differs (λ k. Clear e N s (not-transitive p k j)) i q (λ l. x .2 i l j)
-            (first-differs (λ k. Clear e N s (not-transitive p q k)) j r (x .3 j) (λ z. absurd z)))
+          (first-differs (λ k. Clear e N s (not-transitive p q k)) j r (x .3 j) (λ z. absurd z)))
           (same-law 7 b)
       before (end-not-kept k j) b = absurd (later-law 8 7 (omega arith) b)
       before (arrow-not-matched k j c t) b = absurd (later-law 9 7 (omega arith) b)
@@ -102,8 +102,8 @@ module _ (e : ℕ → Bool) (N : Nfa) (s : ℕ → ℕ → Bool) where
       before (arrow-not-matched k j d u) b =
           first-differs (λ k. Clear e N s (arrow-not-matched k j d u)) k p (λ l. x .1 k l j d u)
           (first-differs (λ k. Clear e N s (arrow-not-matched p k d u)) j r (λ l. x .2 j l d u)
-            (first-differs (λ k. Clear e N s (arrow-not-matched p r k u)) d c (λ l. x .3 d l u)
-              (first-differs (λ k. Clear e N s (arrow-not-matched p r c k)) u t (x .4 u) (λ z. absurd z))))
+          (first-differs (λ k. Clear e N s (arrow-not-matched p r k u)) d c (λ l. x .3 d l u)
+          (first-differs (λ k. Clear e N s (arrow-not-matched p r c k)) u t (x .4 u) (λ z. absurd z))))
           (same-law 9 b)
 
 -- of two lists of numbers one comes before the other, or they are equal

@@ -2,7 +2,7 @@
 use Prim.Native.Nat.{ℕ, _+_, _*_, _^_, _<_, _≤_, min}
 use mathlib.Core.Path.{_≡_, refl, sym, _∙_, ap, subst}
 use mathlib.Core.Bool.{Bool, true, false, not, _&&_, _||_}
-use mathlib.Core.Logic.{_⊎_, inl, inr, ⊎-elim, _↔_}
+use mathlib.Core.Logic.{⊎-elim, _↔_}
 use mathlib.Core.List.{List}
 use native.Mathlib.Omega.{arith}
 use lib.Bits.{bitAnd, bitOr, or-lt}
@@ -11,14 +11,14 @@ use Rattle.std.proofs.shelf.Bits.{or-comm}
 use Rattle.std.proofs.shelf.Tests.{cases-eq, cases-bool, both-ways, and-parts, and-from, and-left, or-left, or-right, or-parts}
 use Rattle.automata.specs.Sets.{has}
 use Rattle.automata.specs.Nfa.{Nfa}
-use Rattle.automata.specs.Runs.{End, Arrow}
+use Rattle.automata.specs.Runs.{Arrow}
 use Rattle.automata.specs.Numbering.{Confined}
-use Rattle.automata.specs.Relations.{bits, among, total}
+use Rattle.automata.specs.Relations.{bits, among}
 use Rattle.automata.specs.Laws.{Simulation}
-use Rattle.automata.specs.Greatest.{InSome, Largest}
+use Rattle.automata.specs.Greatest.{Largest}
 use Rattle.automata.specs.Refining.{arc, Sources, Matches, candidate}
 use Rattle.automata.proofs.Bits.{has-or, has-and, has-zero}
-use Rattle.automata.proofs.Elements.{Less, less-other}
+use Rattle.automata.proofs.Elements.{Less, less-other, and-yes}
 use Rattle.automata.proofs.Simulations.{among-from, among-parts}
 
 -- candidates
@@ -34,9 +34,9 @@ unfolding candidate
 candidate-from e ends p r ep er h =
     and-from (e p && e r) (not (has ends p) || has ends r) (and-from (e p) (e r) ep er)
     (⊎-elim
-      (λ f. or-right (not (has ends p)) (has ends r) (h f))
-      (λ f. or-left (not (has ends p)) (has ends r) (ap not f))
-      (cases-bool (has ends p)))
+    (λ f. or-right (not (has ends p)) (has ends r) (h f))
+    (λ f. or-left (not (has ends p)) (has ends r) (ap not f))
+    (cases-bool (has ends p)))
 
 pub candidate-none : (e : ℕ → Bool) (ends p r : ℕ) → e p ≡ false → candidate e ends p r ≡ false
 unfolding candidate
@@ -50,10 +50,6 @@ candidate-end states ends p hs he r = has-and states ends r ∙ simp (hs, he)
 pub candidate-plain : (states ends p : ℕ) → has states p ≡ true → has ends p ≡ false → (r : ℕ) → has states r ≡ candidate (has states) ends p r
 unfolding candidate
 candidate-plain states ends p hs he r = simp (hs, he) (sym (and-yes (has states r)))
-  where
-    and-yes : (b : Bool) → (b && true) ≡ b
-    and-yes true = refl
-    and-yes false = refl
 
 -- the measure: the rows lose bits, or the waiting set does
 pub rank-less : (a b waiting rest d : ℕ) → b + min 1 d ≤ a → rest < waiting → rest < 2 ^ 64 → d < 2 ^ 64 → b * 2 ^ 64 + bitOr rest d < a * 2 ^ 64 + waiting
@@ -87,7 +83,7 @@ module _ (e : ℕ → Bool) (N : Nfa) (k : Confined e N) (f : List ℕ) (is : So
         absurd (both-ways (e t) (sym (w t) ∙ h) (k .target p c t (to-arrow p c t ep lc lt a)));
     top = λ s x p r h.
         let q = among-parts e s p r h in
-        is₀ p r ∙ candidate-from e (N .ends) p r (q .0) (q .1) (x .ends p r h)
+        is₀ p r ∙ candidate-from e (N .ends) p r (q .0) (q .1) (x .ends p r h);
   }
 
   module _ (rows rows′ : List ℕ) (waiting t rest d : ℕ) (i : Ranked e N f rows waiting) (lt : t < 64) (m : Less rest waiting t) (n : length rows′ ≡ 64)
@@ -109,16 +105,17 @@ module _ (e : ℕ → Bool) (N : Nfa) (k : Confined e N) (f : List ℕ) (is : So
           let x = pairs p r .0 b in
           subst (λ (row : ℕ). Matches f v row p r) (sym (kept v (q .1)))
           (⊎-elim
-            (λ z. subst (λ (j : ℕ). Matches f j (getD rows j 0) p r) (sym z) (x .1))
-            (λ ne. i .done v lv (sym (less-other rest waiting t m v ne) ∙ q .0) p r (x .0))
-            (cases-eq v t));
-      top = λ s x p r h. pairs p r .1 (i .top s x p r h, simulated s x p r h)
+          (λ z. subst (λ (j : ℕ). Matches f j (getD rows j 0) p r) (sym z) (x .1))
+          (λ ne. i .done v lv (sym (less-other rest waiting t m v ne) ∙ q .0) p r (x .0))
+          (cases-eq v t));
+      top = λ s x p r h. pairs p r .1 (i .top s x p r h, simulated s x p r h);
     }
 
   pub rank-end : (rows : List ℕ) (waiting : ℕ) → Ranked e N f rows waiting → waiting ≡ 0 → Largest e N (bits rows)
-  rank-end rows waiting i z p r =
-      ((λ h. let q = candidate-parts e (N .ends) p r (i .down p r h) in (q .0, q .1, (bits rows, simulation, h)))
-      , (λ x. i .top (x .2 .0) (x .2 .1) p r (among-from e (x .2 .0) p r (x .0) (x .1) (x .2 .2))))
+  rank-end rows waiting i z p r = (
+    (λ h. let q = candidate-parts e (N .ends) p r (i .down p r h) in (q .0, q .1, (bits rows, simulation, h))),
+    (λ x. i .top (x .2 .0) (x .2 .1) p r (among-from e (x .2 .0) p r (x .0) (x .1) (x .2 .2))),
+  )
     where
       simulation : Simulation N (among e (bits rows))
       simulation = record {
@@ -129,5 +126,5 @@ module _ (e : ℕ → Bool) (N : Nfa) (k : Confined e N) (f : List ℕ) (is : So
             let lt = k .small t et in
             let u = i .done t lt (ap (λ (n : ℕ). has n t) z ∙ has-zero t) p r (q .2) c (k .command p c t a) (from-arrow p c t a) in
             let eu = candidate-parts e (N .ends) t (u .0) (i .down t (u .0) (u .2)) .1 in
-            (u .0, to-arrow r c (u .0) (q .1) (k .command p c t a) (u .1) (u .3), among-from e (bits rows) t (u .0) et eu (u .2))
+            (u .0, to-arrow r c (u .0) (q .1) (k .command p c t a) (u .1) (u .3), among-from e (bits rows) t (u .0) et eu (u .2));
       }

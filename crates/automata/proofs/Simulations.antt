@@ -1,12 +1,12 @@
 -- Simulations: what they do to runs, and that the greatest one is a lawful order.
 use Prim.Native.Nat.{ℕ}
-use mathlib.Core.Path.{_≡_, refl, sym, _∙_, ap, subst}
+use mathlib.Core.Path.{_≡_, refl, sym, subst}
 use mathlib.Core.Bool.{Bool, true, false, _&&_}
 use mathlib.Core.List.{List, [], _∷_}
 use lib.Dec.{eqb}
 use Rattle.std.proofs.shelf.Tests.{and-parts, and-from, and-left, and-right, eq-eqb, eqb-true}
 use Rattle.automata.specs.Nfa.{Nfa, Proper}
-use Rattle.automata.specs.Runs.{End, Arrow, Leads}
+use Rattle.automata.specs.Runs.{End, Arrow}
 use Rattle.automata.specs.Numbering.{exists, beside, Confined}
 use Rattle.automata.specs.Relations.{among, any}
 use Rattle.automata.specs.Laws.{Simulation, Laws, Simulates, Lawful}
@@ -63,7 +63,7 @@ module _ (e : ℕ → Bool) (N : Nfa) (k : Confined e N) where
     ends = λ p r h f. subst (λ (n : ℕ). End N n) (eqb-true p r (among-parts e eqb p r h .2)) f;
     arrows = λ p r c t h a.
         let q = k .target p c t a in
-        (t, subst (λ (n : ℕ). Arrow N n c t) (eqb-true p r (among-parts e eqb p r h .2)) a, among-from e eqb t t q q (eq-eqb t t refl))
+        (t, subst (λ (n : ℕ). Arrow N n c t) (eqb-true p r (among-parts e eqb p r h .2)) a, among-from e eqb t t q q (eq-eqb t t refl));
   }
 
   -- one relation after the other
@@ -91,7 +91,7 @@ module _ (e : ℕ → Bool) (N : Nfa) (k : Confined e N) where
         let q = then-parts s u p r (among-parts e (then s u) p r h .2) in
         let v = x .arrows p (q .0) c t (q .1) a in
         let w = y .arrows (q .0) r c (v .0) (q .2) (v .1) in
-        (w .0, w .1, among-from e (then s u) t (w .0) (among-parts e s t (v .0) (v .2) .0) (among-parts e u (v .0) (w .0) (w .2) .1) (then-from s u t (v .0) (w .0) (v .2) (w .2)))
+        (w .0, w .1, among-from e (then s u) t (w .0) (among-parts e s t (v .0) (v .2) .0) (among-parts e u (v .0) (w .0) (w .2) .1) (then-from s u t (v .0) (w .0) (v .2) (w .2)));
   }
 
   -- the largest simulation keeps the four laws
@@ -115,12 +115,12 @@ module _ (e : ℕ → Bool) (N : Nfa) (k : Confined e N) where
           let y = some-of q r b in
           let s = then (x .2 .0) (y .2 .0) in
           from-some s (then-simulation (x .2 .0) (y .2 .0) (x .2 .1) (y .2 .1)) p r
-            (among-from e s p r (x .0) (y .1) (then-from (x .2 .0) (y .2 .0) p q r (within p q x) (within q r y)));
+          (among-from e s p r (x .0) (y .1) (then-from (x .2 .0) (y .2 .0) p q r (within p q x) (within q r y)));
       ends = λ p r h f. let x = some-of p r h in x .2 .1 .ends p r (within p r x) f;
       arrows = λ p r c t h a.
           let x = some-of p r h in
           let v = x .2 .1 .arrows p r c t (within p r x) a in
-          (v .0, v .1, from-some (x .2 .0) (x .2 .1) t (v .0) (v .2))
+          (v .0, v .1, from-some (x .2 .0) (x .2 .1) t (v .0) (v .2));
     }
 
 -- the greatest order keeps the four laws

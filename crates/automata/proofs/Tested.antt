@@ -1,5 +1,5 @@
 -- The report that is found by going through the numbers is that of the first offence.
-use Prim.Native.Nat.{ℕ, zero, suc, _<_, _≤_}
+use Prim.Native.Nat.{ℕ, zero, suc, _<_}
 use mathlib.Core.Path.{_≡_, refl, sym, _∙_, ap, subst}
 use mathlib.Core.Bool.{Bool, true, false, not, _&&_}
 use mathlib.Core.Logic.{_⊎_, inl, inr, ⊎-elim}
@@ -101,14 +101,14 @@ module _ (e : ℕ → Bool) (N : Nfa) (s : ℕ → ℕ → Bool) (k : Confined e
   no-match : (r c t : ℕ) → ((u : ℕ) → Arrow N r c u → s t u ≡ false) → matches r c t ≡ false
   unfolding matches
   no-match r c t h = else-false _ (λ a.
-    let u = any-find 64 (λ u. has (N .targets r c) u && s t u) a in
-    let q = and-parts (has (N .targets r c) (u .0)) (s t (u .0)) (u .2) in
-    both-ways (s t (u .0)) (h (u .0) (q .0)) (q .1))
+      let u = any-find 64 (λ u. has (N .targets r c) u && s t u) a in
+      let q = and-parts (has (N .targets r c) (u .0)) (s t (u .0)) (u .2) in
+      both-ways (s t (u .0)) (h (u .0) (q .0)) (q .1))
 
   match-none : (r c t : ℕ) → matches r c t ≡ false → (u : ℕ) → Arrow N r c u → s t u ≡ false
   unfolding matches
   match-none r c t h u a = else-false (s t u) (λ b.
-    both-ways _ h (any-from 64 (λ u. has (N .targets r c) u && s t u) u (k .small u (k .target r c u a)) (and-from (has (N .targets r c) u) (s t u) a b)))
+      both-ways _ h (any-from 64 (λ u. has (N .targets r c) u && s t u) u (k .small u (k .target r c u a)) (and-from (has (N .targets r c) u) (s t u) a b)))
 
   clear-arrows-at₄ : (p r c t : ℕ) → arrows-at₄ e N s p r c t ≡ none → BreaksArrows N s p r c t → ⊥
   unfolding arrows-at₄ matches
@@ -144,12 +144,18 @@ module _ (e : ℕ → Bool) (N : Nfa) (s : ℕ → ℕ → Bool) (k : Confined e
       let a = when-some (s (f .0) (g .0)) _ x (g .1) in
       let i = first-some 64 (transitive-at₃ e N s (f .0) (g .0)) x (a .1) in
       let b = when-some (s (g .0) (i .0) && not (s (f .0) (i .0))) _ x (i .1) in
-      let c = and-parts (s (g .0) (i .0)) (not (s (f .0) (i .0))) (b .0) in
-      (f .0, g .0, i .0, same-report x _ (b .1),
-        ((a .0, c .0, not-true (s (f .0) (i .0)) (c .1))
-        , (λ j l. clear-transitive-at j (f .2 j l))
-        , (λ j l. clear-transitive-at₂ (f .0) j (g .2 j l))
-        , λ j l. clear-transitive-at₃ (f .0) (g .0) j (i .2 j l)))
+      let c = and-parts (s (g .0) (i .0)) (not (s (f .0) (i .0))) (b .0) in (
+        f .0,
+        g .0,
+        i .0,
+        same-report x _ (b .1),
+        (
+          (a .0, c .0, not-true (s (f .0) (i .0)) (c .1)),
+          (λ j l. clear-transitive-at j (f .2 j l)),
+          (λ j l. clear-transitive-at₂ (f .0) j (g .2 j l)),
+          λ j l. clear-transitive-at₃ (f .0) (g .0) j (i .2 j l),
+        ),
+      )
 
   stops-ends : (x : Report) → first 64 (ends-at e N s) ≡ some x → (p : ℕ) × (r : ℕ) × (x ≡ reported (end-not-kept p r)) × StopsEnds N s p r
   unfolding ends-at ends-at₂
@@ -158,11 +164,16 @@ module _ (e : ℕ → Bool) (N : Nfa) (s : ℕ → ℕ → Bool) (k : Confined e
       let a = when-some (e (f .0) && has (N .ends) (f .0)) _ x (f .1) in
       let g = first-some 64 (ends-at₂ e N s (f .0)) x (a .1) in
       let b = when-some (s (f .0) (g .0) && not (has (N .ends) (g .0))) _ x (g .1) in
-      let c = and-parts (s (f .0) (g .0)) (not (has (N .ends) (g .0))) (b .0) in
-      (f .0, g .0, same-report x _ (b .1),
-        ((c .0, and-parts (e (f .0)) (has (N .ends) (f .0)) (a .0) .1, not-true (has (N .ends) (g .0)) (c .1))
-        , (λ j l. clear-ends-at j (f .2 j l))
-        , λ j l. clear-ends-at₂ (f .0) j (g .2 j l)))
+      let c = and-parts (s (f .0) (g .0)) (not (has (N .ends) (g .0))) (b .0) in (
+        f .0,
+        g .0,
+        same-report x _ (b .1),
+        (
+          (c .0, and-parts (e (f .0)) (has (N .ends) (f .0)) (a .0) .1, not-true (has (N .ends) (g .0)) (c .1)),
+          (λ j l. clear-ends-at j (f .2 j l)),
+          λ j l. clear-ends-at₂ (f .0) j (g .2 j l),
+        ),
+      )
 
   stops-arrows : (x : Report) → first 64 (arrows-at e N s) ≡ some x → (p : ℕ) × (r : ℕ) × (c : ℕ) × (t : ℕ) × (x ≡ reported (arrow-not-matched p r c t)) × StopsArrows N s p r c t
   unfolding arrows-at arrows-at₂ arrows-at₃ arrows-at₄ matches
@@ -173,13 +184,20 @@ module _ (e : ℕ → Bool) (N : Nfa) (s : ℕ → ℕ → Bool) (k : Confined e
       let i = first-some 26 (arrows-at₃ e N s (f .0) (g .0)) x (a .1) in
       let j = first-some 64 (arrows-at₄ e N s (f .0) (g .0) (i .0)) x (i .1) in
       let b = when-some (has (N .targets (f .0) (i .0)) (j .0)) _ x (j .1) in
-      let d = when-some (not (matches (g .0) (i .0) (j .0))) _ x (b .1) in
-      (f .0, g .0, i .0, j .0, same-report x _ (d .1),
-        ((a .0, b .0, match-none (g .0) (i .0) (j .0) (not-true (matches (g .0) (i .0) (j .0)) (d .0)))
-        , (λ n l. clear-arrows-at n (f .2 n l))
-        , (λ n l. clear-arrows-at₂ (f .0) n (g .2 n l))
-        , (λ n l. clear-arrows-at₃ (f .0) (g .0) n (i .2 n l))
-        , λ n l. clear-arrows-at₄ (f .0) (g .0) (i .0) n (j .2 n l)))
+      let d = when-some (not (matches (g .0) (i .0) (j .0))) _ x (b .1) in (
+        f .0,
+        g .0,
+        i .0,
+        j .0,
+        same-report x _ (d .1),
+        (
+          (a .0, b .0, match-none (g .0) (i .0) (j .0) (not-true (matches (g .0) (i .0) (j .0)) (d .0))),
+          (λ n l. clear-arrows-at n (f .2 n l)),
+          (λ n l. clear-arrows-at₂ (f .0) n (g .2 n l)),
+          (λ n l. clear-arrows-at₃ (f .0) (g .0) n (i .2 n l)),
+          λ n l. clear-arrows-at₄ (f .0) (g .0) (i .0) n (j .2 n l),
+        ),
+      )
 
   -- a law of which no offence is found holds
   holds-reflexive : first 64 (reflexive-at e N s) ≡ none → Reflexive e s
@@ -196,9 +214,9 @@ module _ (e : ℕ → Bool) (N : Nfa) (s : ℕ → ℕ → Bool) (k : Confined e
   holds-arrows h p r c t b a =
       ⊎-elim
       (λ m.
-        let u = any-find 64 (λ u. has (N .targets r c) u && s t u) m in
-        let q = and-parts (has (N .targets r c) (u .0)) (s t (u .0)) (u .2) in
-        (u .0, q .0, q .1))
+      let u = any-find 64 (λ u. has (N .targets r c) u && s t u) m in
+      let q = and-parts (has (N .targets r c) (u .0)) (s t (u .0)) (u .2) in
+      (u .0, q .0, q .1))
       (λ m. absurd (clear-arrows-at p (first-none 64 _ h p (small p r b .0)) r c t (b, a, match-none r c t m)))
       (cases-bool (matches r c t))
 
@@ -216,19 +234,21 @@ module _ (e : ℕ → Bool) (N : Nfa) (s : ℕ → ℕ → Bool) (k : Confined e
       ⊎-elim
       (λ a. let z = stops-reflexive x a in (not-reflexive (z .0), z .1, first-not-reflexive e N s (z .0) (z .2)))
       (λ a. ⊎-elim
-        (λ b.
-          let z = stops-transitive x b in
-          (not-transitive (z .0) (z .1) (z .2), z .3, first-not-transitive e N s (holds-reflexive (a .0)) (z .0) (z .1) (z .2) (z .4)))
-        (λ b. ⊎-elim
-          (λ c.
-            let z = stops-ends x c in
-            (end-not-kept (z .0) (z .1), z .2, first-end-not-kept e N s (holds-reflexive (a .0)) (holds-transitive (b .0)) (z .0) (z .1) (z .3)))
-          (λ c.
-            let z = stops-arrows x (c .1) in
-            (arrow-not-matched (z .0) (z .1) (z .2) (z .3), z .4
-            , first-arrow-not-matched e N s (holds-reflexive (a .0)) (holds-transitive (b .0)) (holds-ends (c .0)) (z .0) (z .1) (z .2) (z .3) (z .5)))
-          (otherwise-some (first 64 (ends-at e N s)) _ x (b .1)))
-        (otherwise-some (first 64 (transitive-at e N s)) _ x (a .1)))
+      (λ b.
+      let z = stops-transitive x b in
+      (not-transitive (z .0) (z .1) (z .2), z .3, first-not-transitive e N s (holds-reflexive (a .0)) (z .0) (z .1) (z .2) (z .4)))
+      (λ b. ⊎-elim
+      (λ c.
+      let z = stops-ends x c in
+      (end-not-kept (z .0) (z .1), z .2, first-end-not-kept e N s (holds-reflexive (a .0)) (holds-transitive (b .0)) (z .0) (z .1) (z .3)))
+      (λ c.
+      let z = stops-arrows x (c .1) in (
+        arrow-not-matched (z .0) (z .1) (z .2) (z .3),
+        z .4,
+        first-arrow-not-matched e N s (holds-reflexive (a .0)) (holds-transitive (b .0)) (holds-ends (c .0)) (z .0) (z .1) (z .2) (z .3) (z .5),
+      ))
+      (otherwise-some (first 64 (ends-at e N s)) _ x (b .1)))
+      (otherwise-some (first 64 (transitive-at e N s)) _ x (a .1)))
       (otherwise-some (first 64 (reflexive-at e N s)) _ x h)
 
   -- the laws and the first offence determine the report

@@ -1,7 +1,6 @@
 -- Worked cases of the test of an order: a programme T, against no states.
-use Prim.Native.Nat.{ℕ}
 use mathlib.Core.Path.{_≡_, refl}
-use mathlib.Core.Bool.{Bool, cond, _||_, _&&_}
+use mathlib.Core.Bool.{cond, _||_, _&&_}
 use mathlib.Core.Option.{none, some}
 use mathlib.Core.List.{[], _∷_}
 use lib.Dec.{eqb}

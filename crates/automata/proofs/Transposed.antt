@@ -1,8 +1,8 @@
 -- The table of sources made from a table of targets.
-use Prim.Native.Nat.{ℕ, _+_, _*_, _/_, _%_, _^_, _<_, _≤_}
-use mathlib.Core.Path.{_≡_, refl, sym, _∙_, ap, subst}
-use mathlib.Core.Bool.{Bool, true, false, cond, not, _&&_, _||_}
-use mathlib.Core.Logic.{_⊎_, inl, inr, ⊎-elim, _≢_}
+use Prim.Native.Nat.{ℕ, _+_, _*_, _^_, _<_, _≤_}
+use mathlib.Core.Path.{_≡_, refl, sym, _∙_, ap}
+use mathlib.Core.Bool.{Bool, true, false, cond, not, _&&_}
+use mathlib.Core.Logic.{⊎-elim, _≢_}
 use mathlib.Core.List.{List}
 use native.Mathlib.Omega.{arith}
 use lib.Bits.{bitOr}
@@ -14,19 +14,7 @@ use Rattle.automata.specs.Sets.{has}
 use Rattle.automata.specs.Relations.{cell, listed}
 use Rattle.automata.specs.Refining.{arc, Sources}
 use Rattle.automata.proofs.Bits.{has-zero, has-along}
-use Rattle.automata.proofs.Elements.{Less, less-was, less-other, less-gone, same-bool}
-
-not-both : (b : Bool) → (b && not b) ≡ false
-not-both true = refl
-not-both false = refl
-
-and-no : (b : Bool) → (b && false) ≡ false
-and-no true = refl
-and-no false = refl
-
-and-yes : (b : Bool) → (b && true) ≡ b
-and-yes true = refl
-and-yes false = refl
+use Rattle.automata.proofs.Elements.{Less, less-was, less-other, less-gone, same-bool, not-both, and-no, and-yes}
 
 -- s noted as a source under c of the targets that are no more in the rest
 pub record Noted (f₀ f : List ℕ) (targets s c rest : ℕ) : Type 0 where
@@ -38,7 +26,7 @@ pub note-start : (f : List ℕ) (targets s c : ℕ) → length f ≡ 1664 → No
 note-start f targets s c n = record {
   size = n;
   was = λ k e. e;
-  arcs = λ p d t l. let q = not-both (has targets t) in let z = and-no (eqb d c) in simp (q, z)
+  arcs = λ p d t l. let q = not-both (has targets t) in let z = and-no (eqb d c) in simp (q, z);
 }
 
 pub note-step : (f₀ f : List ℕ) (targets s c rest u r′ y : ℕ) → Noted f₀ f targets s c rest → has rest u ≡ true → u < 64 → c < 26 → Less r′ rest u → y ≡ 2 ^ s →
@@ -49,17 +37,17 @@ note-step f₀ f targets s c rest u r′ y i e l lc m q = record {
   arcs = λ p d t ld.
       ⊎-elim
       (λ ed. ⊎-elim
-        (λ et. here p d t ed et)
-        (λ nt.
-          let o : t * 26 + d ≢ u * 26 + c = (λ z. nt (omega arith)) in
-          ap (λ (n : ℕ). has n p) (getD-set-other f (u * 26 + c) (t * 26 + d) _ 0 o) ∙ i .arcs p d t ld
-          ∙ ap (λ (b : Bool). cond ((eqb d c && (has targets t && not b)) && eqb p s) true (arc f₀ p d t)) (sym (less-other r′ rest u m t nt)))
-        (cases-eq t u))
+      (λ et. here p d t ed et)
+      (λ nt.
+      let o : t * 26 + d ≢ u * 26 + c = (λ z. nt (omega arith)) in
+      ap (λ (n : ℕ). has n p) (getD-set-other f (u * 26 + c) (t * 26 + d) _ 0 o) ∙ i .arcs p d t ld
+      ∙ ap (λ (b : Bool). cond ((eqb d c && (has targets t && not b)) && eqb p s) true (arc f₀ p d t)) (sym (less-other r′ rest u m t nt)))
+      (cases-eq t u))
       (λ nd.
-        let o : t * 26 + d ≢ u * 26 + c = (λ z. nd (omega arith)) in
-        let w : eqb d c ≡ false = ne-eqb d c nd in
-        ap (λ (n : ℕ). has n p) (getD-set-other f (u * 26 + c) (t * 26 + d) _ 0 o) ∙ i .arcs p d t ld ∙ simp w)
-      (cases-eq d c)
+      let o : t * 26 + d ≢ u * 26 + c = (λ z. nd (omega arith)) in
+      let w : eqb d c ≡ false = ne-eqb d c nd in
+      ap (λ (n : ℕ). has n p) (getD-set-other f (u * 26 + c) (t * 26 + d) _ 0 o) ∙ i .arcs p d t ld ∙ simp w)
+      (cases-eq d c);
 }
   where
     old : (p : ℕ) → has (getD f (u * 26 + c) 0) p ≡ has (getD f₀ (u * 26 + c) 0) p
@@ -110,23 +98,23 @@ source-step targets f f′ n s c is lc i each p d t ld =
     each p d t ld ∙
     ⊎-elim
     (λ e. ⊎-elim
-      (λ q.
-        let a : eqb d c ≡ true = eq-eqb d c e in
-        let b : eqb p s ≡ true = eq-eqb p s q in
-        let x : n ≡ p * 26 + d = omega arith in
-        let l : ltb (p * 26 + d) (n + 1) ≡ true = lt-ltb _ _ (omega arith) in
-        let m : ltb (p * 26 + d) n ≡ false = le-ltb _ _ (omega arith) in
-        let j : has (getD targets n 0) t ≡ has (getD targets (p * 26 + d) 0) t = ap (λ (k : ℕ). has (getD targets k 0) t) x in
-        let o : arc f p d t ≡ false = i p d t ld ∙ and-left _ (has (getD targets (p * 26 + d) 0) t) m in
-        simp (a, b, l, o, j) (pick (has (getD targets (p * 26 + d) 0) t)))
-      (λ nq.
-        let l : ltb (p * 26 + d) (n + 1) ≡ ltb (p * 26 + d) n = ltb-next _ _ (λ z. nq (omega arith)) in
-        off _ _ (arc f p d t) (ne-eqb p s nq) ∙ i p d t ld ∙ ap (λ (x : Bool). x && has (getD targets (p * 26 + d) 0) t) (sym l))
-      (cases-eq p s))
+    (λ q.
+    let a : eqb d c ≡ true = eq-eqb d c e in
+    let b : eqb p s ≡ true = eq-eqb p s q in
+    let x : n ≡ p * 26 + d = omega arith in
+    let l : ltb (p * 26 + d) (n + 1) ≡ true = lt-ltb _ _ (omega arith) in
+    let m : ltb (p * 26 + d) n ≡ false = le-ltb _ _ (omega arith) in
+    let j : has (getD targets n 0) t ≡ has (getD targets (p * 26 + d) 0) t = ap (λ (k : ℕ). has (getD targets k 0) t) x in
+    let o : arc f p d t ≡ false = i p d t ld ∙ and-left _ (has (getD targets (p * 26 + d) 0) t) m in
+    simp (a, b, l, o, j) (pick (has (getD targets (p * 26 + d) 0) t)))
+    (λ nq.
+    let l : ltb (p * 26 + d) (n + 1) ≡ ltb (p * 26 + d) n = ltb-next _ _ (λ z. nq (omega arith)) in
+    off _ _ (arc f p d t) (ne-eqb p s nq) ∙ i p d t ld ∙ ap (λ (x : Bool). x && has (getD targets (p * 26 + d) 0) t) (sym l))
+    (cases-eq p s))
     (λ ne.
-      let a : eqb d c ≡ false = ne-eqb d c ne in
-      let l : ltb (p * 26 + d) (n + 1) ≡ ltb (p * 26 + d) n = ltb-next _ _ (λ z. ne (omega arith)) in
-      rw a (i p d t ld ∙ ap (λ (x : Bool). x && has (getD targets (p * 26 + d) 0) t) (sym l)))
+    let a : eqb d c ≡ false = ne-eqb d c ne in
+    let l : ltb (p * 26 + d) (n + 1) ≡ ltb (p * 26 + d) n = ltb-next _ _ (λ z. ne (omega arith)) in
+    rw a (i p d t ld ∙ ap (λ (x : Bool). x && has (getD targets (p * 26 + d) 0) t) (sym l)))
     (cases-eq d c)
 
 pub cell-known : (table : List ℕ) (s c : ℕ) → c < 26 → cell table s c ≡ getD table (s * 26 + c) 0

@@ -29,6 +29,7 @@ pub record Simulation (N : Nfa) (s : ℕ → ℕ → Bool) : Type 0 where
   pub ends : KeepsEnds N s
   pub arrows : KeepsArrows N s
 
+-- the four laws together
 pub record Laws (e : ℕ → Bool) (N : Nfa) (s : ℕ → ℕ → Bool) : Type 0 where
   pub reflexive : Reflexive e s
   pub transitive : Transitive s

@@ -43,6 +43,7 @@ BreaksEnds N s p r = (s p r ≡ true) × End N p × (has (N .ends) r ≡ false)
 abbrev pub BreaksArrows : Nfa → (ℕ → ℕ → Bool) → ℕ → ℕ → ℕ → ℕ → Type 0
 BreaksArrows N s p r c t = (s p r ≡ true) × Arrow N p c t × ((u : ℕ) → Arrow N r c u → s t u ≡ false)
 
+-- the law of the offence is broken at its numbers
 abbrev pub Offends : (ℕ → Bool) → Nfa → (ℕ → ℕ → Bool) → Offence → Type 0
 Offends e N s (not-reflexive p) = BreaksReflexive e s p
 Offends e N s (not-transitive p q r) = BreaksTransitive s p q r

@@ -27,29 +27,35 @@ first (suc n) f = otherwise (first n f) (λ _. f n)
 
 -- the report of the first offence against each law, of the relation s among the existing states e of the plan N
 module _ (e : ℕ → Bool) (N : Nfa) (s : ℕ → ℕ → Bool) where
+  -- p is not below itself
   unfoldable pub reflexive-at : ℕ → Option Report
   reflexive-at p = when-so (e p && not (s p p)) (λ _. some (reported (not-reflexive p)))
 
+  -- p, which is below q, is not below an r above q
   unfoldable pub transitive-at₃ : ℕ → ℕ → ℕ → Option Report
   transitive-at₃ p q r = when-so (s q r && not (s p r)) (λ _. some (reported (not-transitive p q r)))
 
+  -- the first such r for p and q, and the first such q and r for p
   unfoldable pub transitive-at₂ : ℕ → ℕ → Option Report
   transitive-at₂ p q = when-so (s p q) (λ _. first 64 (transitive-at₃ p q))
 
   unfoldable pub transitive-at : ℕ → Option Report
   transitive-at p = when-so (e p) (λ _. first 64 (transitive-at₂ p))
 
+  -- r, above the end p, is no end, and the first such r for p
   unfoldable pub ends-at₂ : ℕ → ℕ → Option Report
   ends-at₂ p r = when-so (s p r && not (has (N .ends) r)) (λ _. some (reported (end-not-kept p r)))
 
   unfoldable pub ends-at : ℕ → Option Report
   ends-at p = when-so (e p && has (N .ends) p) (λ _. first 64 (ends-at₂ p))
 
+  -- the arrow of p under c to t is not matched by r
   unfoldable pub arrows-at₄ : ℕ → ℕ → ℕ → ℕ → Option Report
   arrows-at₄ p r c t =
       when-so (has (N .targets p c) t)
       (λ _. when-so (not (any 64 (λ u. has (N .targets r c) u && s t u))) (λ _. some (reported (arrow-not-matched p r c t))))
 
+  -- the first such t for p, r and c, the first such c and t for p and r, and the first such r, c and t for p
   unfoldable pub arrows-at₃ : ℕ → ℕ → ℕ → Option Report
   arrows-at₃ p r c = first 64 (arrows-at₄ p r c)
 

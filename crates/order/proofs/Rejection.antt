@@ -19,7 +19,7 @@ rejected A R o x r = record {
   offence = r .offence;
   first = r .first;
   report = r .report;
-  unlawful = offence-breaks (exists A R) (beside A R) (among (exists A R) o) (r .offence) (r .first .offends)
+  unlawful = offence-breaks (exists A R) (beside A R) (among (exists A R) o) (r .offence) (r .first .offends);
 }
 
 -- and is what the definition reports

@@ -3,7 +3,6 @@ ghost use Prim.Native.Nat.{_<_};
 ghost use lib.ListN.{length, getD};
 ghost use Rattle.std.specs.Results.{Cases};
 ghost use Rattle.order.specs.Orders.{delivered};
-
 use crate::interface::Order;
 use plan::refusal::Refusal;
 

@@ -9,10 +9,13 @@ ghost use Rattle.automata.specs.Laws.{Lawful, Simulates};
 ghost use Rattle.automata.specs.Greatest.{Largest, Greatest, KeepsRuns};
 ghost use Rattle.automata.specs.Refining.{candidate};
 ghost use Rattle.order.specs.Orders.{rowed};
-
-use crate::numbers::{ends, states, targets};
+use crate::numbers::ends;
+use crate::numbers::states;
+use crate::numbers::targets;
 use crate::refining::settle;
-use crate::sets::{contains, highest, without};
+use crate::sets::contains;
+use crate::sets::highest;
+use crate::sets::without;
 use crate::sources::sources;
 use plan::interface::Plan;
 
@@ -50,8 +53,8 @@ fn candidates(states: u64, ends: u64) -> [u64; 64]
     rows
 }
 
-/// The pairs that are in some simulation: the candidates, narrowed until every arrow is matched. A number waits when a
-/// row of its own has changed since the arrows to it were matched.
+/// The pairs that are in some simulation: the candidates, narrowed until every arrow is matched. A number waits
+/// when its row has changed since the arrows to it were last matched.
 fn simulation(states: u64, ends: u64, targets: &[u64; 1664]) -> [u64; 64]
     requires { ⌜ Confined (has states) (listed ends (now targets)) ⌝ }
     ensures { λ t. ⌜ Largest (has states) (listed ends (now (targets .entry))) (bits t) ⌝ }

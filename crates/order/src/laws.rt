@@ -19,12 +19,15 @@ ghost use Rattle.automata.specs.Refining.{Matches};
 ghost use Rattle.automata.specs.Testing.{tested};
 ghost use Rattle.plan.specs.Refusals.{report-of};
 ghost use Rattle.order.specs.Verdicts.{Reports, Rejected};
-
 use crate::greatest::empty_rows;
 use crate::interface::Order;
-use crate::numbers::{ends, states, targets};
+use crate::numbers::ends;
+use crate::numbers::states;
+use crate::numbers::targets;
 use crate::refining::settle;
-use crate::sets::{are_disjoint, contains, lowest};
+use crate::sets::are_disjoint;
+use crate::sets::contains;
+use crate::sets::lowest;
 use crate::sources::sources;
 use plan::interface::Plan;
 use plan::refusal::Refusal;
@@ -87,7 +90,11 @@ fn skipped(rows: &[u64; 64], p: u8, q: u8) -> u64
     requires { ⌜ p < 64 ⌝ ∗ ⌜ q < 64 ⌝ }
     ensures { λ t. ⌜ ((r : ℕ) → (has t r ≡ true) ↔ BreaksTransitive (bits (now (rows .entry))) p q r) ⌝ }
 {
-    if contains(rows[p as usize], q) { rows[q as usize] & !rows[p as usize] } else { 0 }
+    if contains(rows[p as usize], q) {
+        rows[q as usize] & !rows[p as usize]
+    } else {
+        0
+    }
 }
 
 /// The first three states of which two pairs are there and the third is not.
@@ -99,7 +106,11 @@ fn not_transitive(rows: &[u64; 64]) -> Option<Refusal>
         for q in 0..64u8 {
             let over = skipped(rows, p, q);
             if over != 0 {
-                found = Some(Refusal::NotTransitive { p, q, r: lowest(over) });
+                found = Some(Refusal::NotTransitive {
+                    p,
+                    q,
+                    r: lowest(over),
+                });
                 break 'law;
             }
         }
@@ -112,7 +123,11 @@ fn stopped(ends: u64, rows: &[u64; 64], p: u8) -> u64
     requires { ⌜ p < 64 ⌝ }
     ensures { λ t. ⌜ ((r : ℕ) → (has t r ≡ true) ↔ BreaksEnds (listed ends []) (bits (now (rows .entry))) p r) ⌝ }
 {
-    if contains(ends, p) { rows[p as usize] & !ends } else { 0 }
+    if contains(ends, p) {
+        rows[p as usize] & !ends
+    } else {
+        0
+    }
 }
 
 /// The first end that is below a state that is none.
@@ -150,12 +165,22 @@ fn is_lost(rows: &[u64; 64], left: &[u64; 64], p: u8, r: u8) -> bool
 }
 
 /// Whether `p` has an arrow under `command` to `target`, and `target` is below no target of `r` under `command`.
-fn is_unmatched(targets: &[u64; 1664], rows: &[u64; 64], p: u8, r: u8, command: u8, target: u8) -> bool
+fn is_unmatched(
+    targets: &[u64; 1664],
+    rows: &[u64; 64],
+    p: u8,
+    r: u8,
+    command: u8,
+    target: u8,
+) -> bool
     requires { ⌜ p < 64 ⌝ ∗ ⌜ r < 64 ⌝ ∗ ⌜ command < 26 ⌝ ∗ ⌜ target < 64 ⌝ }
     ensures { λ b. ⌜ ((b ≡ true) ↔ (Arrow (listed 0 (now (targets .entry))) p command target × ((u : ℕ) → Arrow (listed 0 (now (targets .entry))) r command u → bits (now (rows .entry)) target u ≡ false))) ⌝ }
 {
     if contains(targets[p as usize * 26 + command as usize], target) {
-        are_disjoint(rows[target as usize], targets[r as usize * 26 + command as usize])
+        are_disjoint(
+            rows[target as usize],
+            targets[r as usize * 26 + command as usize],
+        )
     } else {
         false
     }
@@ -176,7 +201,12 @@ fn arrow_not_matched(targets: &[u64; 1664], rows: &[u64; 64]) -> Option<Refusal>
             for command in 0..26u8 {
                 for target in 0..64u8 {
                     if is_unmatched(targets, rows, p, r, command, target) {
-                        found = Some(Refusal::ArrowNotMatched { p, r, command, target });
+                        found = Some(Refusal::ArrowNotMatched {
+                            p,
+                            r,
+                            command,
+                            target,
+                        });
                         break 'law;
                     }
                 }

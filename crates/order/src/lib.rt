@@ -13,6 +13,5 @@ pub mod rows;
 pub mod same;
 mod sets;
 mod sources;
-
 #[cfg(test)]
 mod tests;

@@ -5,7 +5,6 @@ ghost use lib.ListN.{length, getD};
 ghost use Rattle.automata.specs.Sets.{has};
 ghost use Rattle.automata.specs.Nfa.{Proper};
 ghost use Rattle.automata.specs.Numbering.{exists, beside};
-
 use plan::interface::Plan;
 
 /// The numbers below `n`.

@@ -7,8 +7,8 @@ ghost use lib.ListN.{length, getD};
 ghost use Rattle.automata.specs.Sets.{has};
 ghost use Rattle.automata.specs.Relations.{bits, total};
 ghost use Rattle.automata.specs.Refining.{Into, Matches};
-
-use crate::sets::{lowest, without};
+use crate::sets::lowest;
+use crate::sets::without;
 
 /// An empty set for each command.
 fn no_numbers() -> [u64; 26]

@@ -1,5 +1,4 @@
 ghost use Rattle.order.specs.Orders.{rowed};
-
 use crate::interface::Order;
 
 /// Sixty-four rows are an order: bit `r` of row `p` says whether `p` is below `r`.

@@ -1,5 +1,4 @@
 ghost use Rattle.order.specs.Orders.{same};
-
 use crate::interface::Order;
 
 /// The order in which each number below 64 is below itself and no other.

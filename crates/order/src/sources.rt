@@ -1,13 +1,13 @@
 ghost use mathlib.Core.Path.{_≡_};
-ghost use mathlib.Core.Bool.{true, false, cond, _&&_};
+ghost use mathlib.Core.Bool.{true, cond, _&&_};
 ghost use Prim.Native.Nat.{ℕ, _<_};
 ghost use lib.Dec.{eqb};
 ghost use Rattle.automata.specs.Sets.{has};
 ghost use Rattle.automata.specs.Relations.{listed};
 ghost use Rattle.automata.specs.Refining.{arc, Sources};
-
 use crate::numbers::empty_table;
-use crate::sets::{lowest, without};
+use crate::sets::lowest;
+use crate::sets::without;
 
 /// Notes `s` as a source under `command` of each of the targets.
 fn note(sources: &mut [u64; 1664], targets: u64, s: u8, command: u8)
@@ -28,7 +28,12 @@ pub(crate) fn sources(targets: &[u64; 1664]) -> [u64; 1664]
 {
     let mut table = empty_table();
     for place in 0..1664u16 {
-        note(&mut table, targets[place as usize], (place / 26) as u8, (place % 26) as u8);
+        note(
+            &mut table,
+            targets[place as usize],
+            (place / 26) as u8,
+            (place % 26) as u8,
+        );
     }
     table
 }

@@ -1,7 +1,6 @@
 ghost use mathlib.Core.Bool.{cond};
 ghost use lib.Dec.{eqb};
 ghost use Rattle.automata.specs.Drawing.{blank};
-
 use crate::laws::test;
 use crate::rows::RowsOrder;
 use plan::interface::Plan;
@@ -84,7 +83,9 @@ fn answer(first: [u64; 4], others: u64) -> (u8, [usize; 4]) {
 fn accepted_orders() -> Result<(), Fail> {
     check(answer([1, 2, 4, 8], 0) == (0, [0, 0, 0, 0]))?;
     check(answer([1, 6, 4, 8], 0) == (0, [0, 0, 0, 0]))?;
-    check(answer([1, 2, 4, 8], 7).0 == 0).note("pairs of states that do not exist are not looked at")
+    check(answer([1, 2, 4, 8], 7).0 == 0).note(
+        "pairs of states that do not exist are not looked at",
+    )
 }
 
 #[test]

@@ -17,6 +17,6 @@ pub returns : need.returns
 returns c = record {
   size = c .loop-p .inv .size;
   pairs =
-    rows-end (candidate (has (c .args .states)) (c .args .ends)) (c .loop-p .rows) (c .loop-p .p) (c .loop-p .inv) (c .loop-p-test .left) (omega arith)
-    (λ p r l. candidate-none (has (c .args .states)) (c .args .ends) p r (has-past 64 (c .args .states) p (c .fits .states .fits) l))
+      rows-end (candidate (has (c .args .states)) (c .args .ends)) (c .loop-p .rows) (c .loop-p .p) (c .loop-p .inv) (c .loop-p-test .left) (omega arith)
+      (λ p r l. candidate-none (has (c .args .states)) (c .args .ends) p r (has-past 64 (c .args .states) p (c .fits .states .fits) l));
 }

@@ -26,7 +26,7 @@ returns g c =
     let pr = c .states-states .ensures .rule in
     let rows = c .simulation .result in
     let x =
-      to-beside A R pa pr (c .targets-targets .result) (c .targets-targets .ensures .size) (c .targets-targets .ensures .cells) (c .states-states .result) (c .ends-ends .result)
-      (c .states-states .ensures .numbers) (c .ends-ends .ensures) (λ (e : ℕ → Bool) (N : Nfa). Largest e N (bits rows)) (c .simulation .ensures) in
+    to-beside A R pa pr (c .targets-targets .result) (c .targets-targets .ensures .size) (c .targets-targets .ensures .cells) (c .states-states .result) (c .ends-ends .result)
+    (c .states-states .ensures .numbers) (c .ends-ends .ensures) (λ (e : ℕ → Bool) (N : Nfa). Largest e N (bits rows)) (c .simulation .ensures) in
     let y : Greatest A R (rowed rows) = largest-rowed _ _ (beside-confined A R pa pr) rows x in
     record { greatest = y; lawful = greatest-lawful A R pa pr (rowed rows) y; runs = simulates-runs A R }

@@ -1,4 +1,4 @@
-use mathlib.Core.Path.{_≡_, ap}
+use mathlib.Core.Path.{ap}
 use Rattle.automata.specs.Sets.{has}
 use Rattle.automata.specs.Relations.{bits, listed}
 use Rattle.automata.specs.Offences.{not-reflexive, not-transitive, end-not-kept, arrow-not-matched}
@@ -13,7 +13,7 @@ returns-in-Some c =
     record {
       offence = not-reflexive (x .0);
       first = first-not-reflexive (has (c .args .states)) (listed (c .args .ends) (c .args .targets .now)) (bits (c .args .rows .now)) (x .0) (x .2);
-      report = ap report-of (x .1)
+      report = ap report-of (x .1);
     }
 
 pub returns-in-Some-not-transitive : need.returns-in-Some-not-transitive
@@ -22,9 +22,9 @@ returns-in-Some-not-transitive c =
     record {
       offence = not-transitive (x .0) (x .1) (x .2);
       first =
-        first-not-transitive (has (c .args .states)) (listed (c .args .ends) (c .args .targets .now)) (bits (c .args .rows .now))
-        (c .in-rest .ensures tt) (x .0) (x .1) (x .2) (x .4);
-      report = ap report-of (x .3)
+          first-not-transitive (has (c .args .states)) (listed (c .args .ends) (c .args .targets .now)) (bits (c .args .rows .now))
+          (c .in-rest .ensures tt) (x .0) (x .1) (x .2) (x .4);
+      report = ap report-of (x .3);
     }
 
 pub returns-in-Some-end-not-kept : need.returns-in-Some-end-not-kept
@@ -33,9 +33,9 @@ returns-in-Some-end-not-kept c =
     record {
       offence = end-not-kept (x .0) (x .1);
       first =
-        first-end-not-kept (has (c .args .states)) (listed (c .args .ends) (c .args .targets .now)) (bits (c .args .rows .now))
-        (c .in-rest .ensures tt) (c .in-rest-not-transitive .ensures tt) (x .0) (x .1) (x .3);
-      report = ap report-of (x .2)
+          first-end-not-kept (has (c .args .states)) (listed (c .args .ends) (c .args .targets .now)) (bits (c .args .rows .now))
+          (c .in-rest .ensures tt) (c .in-rest-not-transitive .ensures tt) (x .0) (x .1) (x .3);
+      report = ap report-of (x .2);
     }
 
 pub returns : need.returns
@@ -45,8 +45,8 @@ returns c =
     (λ e x. record {
       offence = arrow-not-matched (x .0) (x .1) (x .2) (x .3);
       first =
-        first-arrow-not-matched (has (c .args .states)) (listed (c .args .ends) (c .args .targets .now)) (bits (c .args .rows .now))
-        (c .in-rest .ensures tt) (c .in-rest-not-transitive .ensures tt) (c .in-rest-end-not-kept .ensures tt) (x .0) (x .1) (x .2) (x .3) (x .5);
-      report = ap report-of (x .4)
+          first-arrow-not-matched (has (c .args .states)) (listed (c .args .ends) (c .args .targets .now)) (bits (c .args .rows .now))
+          (c .in-rest .ensures tt) (c .in-rest-not-transitive .ensures tt) (c .in-rest-end-not-kept .ensures tt) (x .0) (x .1) (x .2) (x .3) (x .5);
+      report = ap report-of (x .4);
     })
     (c .arrow-not-matched .ensures)

@@ -1,5 +1,4 @@
-use mathlib.Core.Path.{sym, _∙_}
-use Rattle.automata.specs.Sets.{has}
+use mathlib.Core.Path.{sym}
 use Rattle.automata.proofs.Elements.{has-minus}
 use Rattle.order.proofs.laws.stopped.Needs as need
 

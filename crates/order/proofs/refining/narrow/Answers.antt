@@ -19,5 +19,5 @@ pub returns : need.returns
 returns c = record {
   rows = narrow-end (c .args .rows .now) (c .loop-rest .rows) (c .args .users) (c .args .able) (c .loop-rest .changed) (c .loop-rest .rest) (c .loop-rest .inv) (c .loop-rest-test .left);
   kept = c .loop-rest .inv .kept;
-  less = c .loop-rest .inv .less
+  less = c .loop-rest .inv .less;
 }

@@ -13,8 +13,8 @@ loop-c-again c =
 pub returns : need.returns
 returns c = record {
   pairs =
-    settle-end (c .args .sources .now) (c .ahead-able .result) (c .args .rows .now) (c .loop-c .rows) (c .args .t) (c .loop-c .c) (c .loop-c .changed) (c .args .above)
-    (c .loop-c .inv) (c .loop-c-test .left) (omega arith) (c .ahead-able .ensures);
+      settle-end (c .args .sources .now) (c .ahead-able .result) (c .args .rows .now) (c .loop-c .rows) (c .args .t) (c .loop-c .c) (c .loop-c .changed) (c .args .above)
+      (c .loop-c .inv) (c .loop-c-test .left) (omega arith) (c .ahead-able .ensures);
   kept = c .loop-c .inv .kept;
-  less = c .loop-c .inv .less
+  less = c .loop-c .inv .less;
 }
