@@ -16,3 +16,14 @@ pub mod Views
 pub mod Marks
 pub mod Steps
 pub mod Arrays
+pub mod Numbered
+pub mod Simulations
+pub mod Offended
+pub mod Elements
+pub mod Transposed
+pub mod Narrowed
+pub mod Ranked
+pub mod Listed
+pub mod Matched
+pub mod Tested
+pub mod TestedCases

@@ -7,3 +7,11 @@ pub mod Records
 pub mod Files
 pub mod Reading
 pub mod Lookup
+pub mod Numbering
+pub mod Relations
+pub mod Laws
+pub mod Offences
+pub mod Searches
+pub mod Greatest
+pub mod Refining
+pub mod Testing

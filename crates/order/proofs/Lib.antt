@@ -1,0 +1,3 @@
+pub mod AsOrder
+pub mod Answered
+pub mod Rejection

@@ -1,0 +1,9 @@
+use mathlib.Core.Path.{sym}
+use Rattle.automata.proofs.Elements.{has-minus}
+use Rattle.order.proofs.laws.stopped.Needs as need
+
+pub returns-then-contains : need.returns-then-contains
+returns-then-contains c =
+    λ r.
+    let m = has-minus _ _ r (c .fits-rows (c .args .p)) (c .fits .ends .fits) in
+    ((λ h. let x = m .0 h in (x .0, sym (c .if-contains .ensures tt), x .1)), λ b. m .1 (b .0, b .2))
