@@ -1,13 +1,23 @@
 ghost use Prim.Native.Nat.{_<_};
 ghost use Rattle.std.specs.Of.Vec.{vec-len};
 ghost use Rattle.std.specs.Options.{Cases};
+use order::delivered::Delivered;
+use order::delivered::DeliveredOrder;
+use order::greatest::rank;
+use order::laws::test;
+use order::rows::RowsOrder;
+use order::same::Same;
+use order::same::SameOrder;
 use plan::file::FilePlan;
 use plan::file::PlanOfFile;
+use plan::interface::Plan;
 use plan::refusal::Refusal;
 use plan::table::Table;
 use plan::table_plan::PlanOfTable;
 use plan::writer::write;
 use script::hex::decode;
+use script::order_name::OrderName;
+use script::pairs::pair_bytes;
 use script::statement::Statement;
 use script::statement::is_passed_over;
 use script::statement::parse;
@@ -17,6 +27,7 @@ use wording::answer::Answer;
 use wording::answer::word_answer;
 use wording::answer::word_file;
 use wording::echo::echo;
+use wording::pairs::word_pairs;
 use wording::show::show;
 
 /// The length of the longest file of a plan: a head, 32 starts, 32 ends and 32 * 26 * 32 arrows.
@@ -35,6 +46,8 @@ pub(crate) struct Session {
     programme: Table,
     rule: Table,
     plans: Vec<Binding>,
+    /// The order that was delivered last, as 64 rows of eight bytes.
+    delivered: [u8; 512],
 }
 
 impl Session {
@@ -44,6 +57,7 @@ impl Session {
             programme: Table::new(),
             rule: Table::new(),
             plans: Vec::new(heap),
+            delivered: pair_bytes(b""),
         }
     }
 
@@ -58,10 +72,22 @@ impl Session {
             return Ok(());
         }
         echo(out, line)?;
-        out.extend_from_slice(b": ")?;
+        out.push(b':')?;
         match parse(line) {
-            Some(statement) => self.perform(heap, statement, out)?,
-            None => word_answer(out, Answer::Malformed)?,
+            Some(Statement::Rank) => word_pairs(out, &rank(&self.programme, &self.rule))?,
+            Some(Statement::RankPlans { programme, rule }) => self.rank_plans(
+                programme,
+                rule,
+                out,
+            )?,
+            Some(statement) => {
+                out.push(b' ')?;
+                self.perform(heap, statement, out)?;
+            }
+            None => {
+                out.push(b' ')?;
+                word_answer(out, Answer::Malformed)?;
+            }
         }
         out.push(b'\n')?;
         Ok(())
@@ -97,6 +123,81 @@ impl Session {
             Statement::Write { side, buffer } => self.write_side(heap, side, buffer, out),
             Statement::ShowPlan { name } => self.show_plan(name, out),
             Statement::ShowSide { side } => self.show_side(side, out),
+            Statement::Pairs { text } => {
+                self.delivered = pair_bytes(text);
+                word_answer(out, Answer::Done)
+            }
+            Statement::Deliver { hex } => self.deliver(heap, hex, out),
+            Statement::Rank => word_pairs(out, &rank(&self.programme, &self.rule)),
+            Statement::RankPlans { programme, rule } => self.rank_plans(programme, rule, out),
+            Statement::Test { order } => word_outcome(out, self.test_sides(order)),
+            Statement::TestPlans {
+                programme,
+                rule,
+                order,
+            } => self.test_plans(programme, rule, order, out),
+        }
+    }
+
+    /// Takes the order that the bytes hold, if they are 512; others leave the former one.
+    fn deliver(&mut self, heap: Global, hex: &[u8], out: &mut Vec<u8>) -> Result<(), AllocError> {
+        let bytes = decode(heap, hex)?;
+        if let Err(refusal) = Delivered::new(bytes.as_slice()) {
+            return word_answer(out, Answer::Refused(refusal));
+        }
+        for (at, b) in bytes.iter().enumerate() {
+            if at < 512 {
+                self.delivered[at] = *b;
+            }
+        }
+        word_answer(out, Answer::Done)
+    }
+
+    /// Tests an order for the two sides.
+    fn test_sides(&self, order: OrderName) -> Result<(), Refusal> {
+        test_order(&self.programme, &self.rule, order, &self.delivered)
+    }
+
+    /// Answers the greatest order of two named plans.
+    fn rank_plans(
+        &self,
+        programme: &[u8],
+        rule: &[u8],
+        out: &mut Vec<u8>,
+    ) -> Result<(), AllocError> {
+        let (Some(i), Some(j)) = (self.position(programme), self.position(rule)) else {
+            out.push(b' ')?;
+            return word_answer(out, Answer::UnknownPlan);
+        };
+        match (
+            FilePlan::read(self.plans[i].file.as_slice()),
+            FilePlan::read(self.plans[j].file.as_slice()),
+        ) {
+            (Ok(programme), Ok(rule)) => word_pairs(out, &rank(&programme, &rule)),
+            _ => word_answer(out, Answer::UnknownPlan),
+        }
+    }
+
+    /// Answers the test of an order for two named plans.
+    fn test_plans(
+        &self,
+        programme: &[u8],
+        rule: &[u8],
+        order: OrderName,
+        out: &mut Vec<u8>,
+    ) -> Result<(), AllocError> {
+        let (Some(i), Some(j)) = (self.position(programme), self.position(rule)) else {
+            return word_answer(out, Answer::UnknownPlan);
+        };
+        match (
+            FilePlan::read(self.plans[i].file.as_slice()),
+            FilePlan::read(self.plans[j].file.as_slice()),
+        ) {
+            (Ok(programme), Ok(rule)) => word_outcome(
+                out,
+                test_order(&programme, &rule, order, &self.delivered),
+            ),
+            _ => word_answer(out, Answer::UnknownPlan),
         }
     }
 
@@ -243,5 +344,19 @@ fn word_written(
     match written {
         Ok(length) => word_file(out, &buffer[0..length.min(buffer.len())]),
         Err(refusal) => word_answer(out, Answer::Refused(refusal)),
+    }
+}
+
+/// Tests the named order for two plans.
+fn test_order<P: Plan, R: Plan>(
+    programme: &P,
+    rule: &R,
+    order: OrderName,
+    delivered: &[u8],
+) -> Result<(), Refusal> {
+    match order {
+        OrderName::Same => test(programme, rule, &Same),
+        OrderName::Greatest => test(programme, rule, &rank(programme, rule)),
+        OrderName::Delivered => test(programme, rule, &Delivered::new(delivered)?),
     }
 }
