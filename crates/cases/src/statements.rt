@@ -26,7 +26,7 @@ fn answers_are_worded(rt: LibcRuntime) -> Result<(), Fail> {
         out.push(b'\n')?;
     }
     let text: &[u8] =
-        b"ok\n10\nrefused 9 2 1 0 3 (the first is below the second, but its arrow has no answer there)\nunknown plan\n";
+        b"ok\n10\nrefused 9 2 1 0 3 (programme state 2, programme state 1, command a, programme state 3: the first is below the second, but its arrow has no answer there)\nunknown plan\n";
     check(out.as_slice() == text)
 }
 

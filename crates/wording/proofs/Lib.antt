@@ -1,3 +1,4 @@
 pub mod Appends
 pub mod Shows
 pub mod Paired
+pub mod Named

@@ -9,6 +9,7 @@ use Rattle.wording.specs.declared.answer.Answer.{Answer}
 use Rattle.wording.specs.declared.answer.Answer.the-variants as answer
 use Rattle.script.specs.Hex.{hexed}
 use Rattle.wording.specs.Texts.{numeral, behind-spaces}
+use Rattle.wording.specs.Names.{names-text}
 
 -- what a refusal means, in a few words
 abbrev pub reason : Refusal → List ℕ
@@ -39,9 +40,9 @@ reason (BufferShort needed) = codes "the file needs a buffer of this many bytes"
 abbrev pub values-text : List ℕ → List ℕ
 values-text ns = behind-spaces (map numeral ns)
 
--- the reason of a refusal, in parentheses
+-- the reason of a refusal, in parentheses, with the states and the command named
 abbrev pub reason-text : Refusal → List ℕ
-reason-text r = codes " (" ++ (reason r ++ codes ")")
+reason-text r = codes " (" ++ (names-text (number-of r) (values-of r) ++ (reason r ++ codes ")"))
 
 -- a refusal: its number, its values, and its reason
 unfoldable pub refusal-text : Refusal → List ℕ

@@ -1,4 +1,5 @@
 pub mod Texts
+pub mod Names
 pub mod Answers
 pub mod Show
 pub mod Pairs

@@ -4,6 +4,7 @@ ghost use Rattle.plan.specs.Refusals.{values-of};
 ghost use Rattle.wording.specs.Texts.{Appends};
 ghost use Rattle.wording.specs.Answers.{reason as words-for, values-text, reason-text, refusal-text, file-text, answer-text};
 use crate::hex::encode;
+use crate::names::push_names;
 use crate::text::push_byte;
 use crate::text::push_number;
 use crate::text::push_text;
@@ -74,6 +75,7 @@ fn push_reason(out: &mut Vec<u8>, refusal: &Refusal) -> Result<(), AllocError>
     ensures { λ r. ⌜ Appends r (vec-items (now (out .entry))) (vec-items (now (out .exit))) (reason-text (now (refusal .entry))) ⌝ }
 {
     push_text(out, b" (")?;
+    push_names(out, refusal)?;
     push_text(out, reason(refusal))?;
     push_text(out, b")")
 }

@@ -4,6 +4,7 @@
 pub mod answer;
 pub mod echo;
 pub mod hex;
+mod names;
 pub mod pairs;
 pub mod show;
 mod text;
