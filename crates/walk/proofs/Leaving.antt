@@ -2,24 +2,25 @@
 use Prim.Native.Nat.{ℕ, _+_, _≤_, _<_}
 use native.Mathlib.Omega.{arith}
 use mathlib.Core.Path.{_≡_, refl, sym, ap, subst, _∙_}
+use mathlib.Core.Bool.{false}
 use mathlib.Core.List.{List, _++_}
 use lib.ListN.{length, take, drop}
 use Rattle.std.proofs.shelf.Lists.{length-take-le, take-append-drop, take-at}
 use Rattle.walk.specs.declared.slot.Slot.{Slot}
 use Rattle.walk.specs.declared.offer.Ending.{Ending}
 use Rattle.walk.specs.declared.offer.Ending.the-variants.{Passed, Failed, Full}
-use Rattle.walk.specs.Lists.{Distinct}
-use Rattle.walk.specs.Slots.{items}
+use Rattle.walk.specs.Lists.{All, Distinct}
+use Rattle.walk.specs.Slots.{waits, items}
 use Rattle.walk.specs.Kinds.{Kind, Facts, Transitive, Missed}
 use Rattle.walk.specs.Runs.{run-to}
 use Rattle.walk.specs.Walks.{Outcome, passed, failed, full, walk}
 use Rattle.walk.specs.Answers.{verdict, run, stored, answer, Leaves}
-use Rattle.walk.specs.Statements.{Says, NotFull, Coded, Tells}
+use Rattle.walk.specs.Statements.{Says, NotFull, Exhausted, Coded, Tells}
 use Rattle.walk.specs.Progress.{outcome, filled-at, Ends}
 use Rattle.walk.proofs.Trails.{run-length}
-use Rattle.walk.proofs.Turns.{steady}
+use Rattle.walk.proofs.Turns.{persistent, exhaustive}
 use Rattle.walk.proofs.Sound.{sound}
-use Rattle.walk.proofs.Room.{spare, roomy}
+use Rattle.walk.proofs.Room.{irredundant, sufficient}
 
 module _ {I : Type 0} (before later : List (Slot I)) where
   whole : (k : ℕ) → k ≤ length later → drop k later ≡ drop k before → later ≡ take k later ++ drop (length (take k later)) before
@@ -67,7 +68,19 @@ module _ {I : Type 0} (before later : List (Slot I)) where
 
     -- more slots leave the same
     pub leaves-more : (r .0 ≡ 2 → ⊥) → (m : ℕ) → n ≤ m → Leaves (walk K m) r before later blank written
-    leaves-more f m l = subst (λ (w : Outcome I). Leaves w r before later blank written) (sym (steady K n m l (not-full f))) h
+    leaves-more f m l = subst (λ (w : Outcome I). Leaves w r before later blank written) (sym (persistent K n m l (not-full f))) h
+
+    filled-is : take (r .2) later ≡ stored (walk K n)
+    filled-is = ap (take (r .2)) (h .slots) ∙ take-at (stored (walk K n)) _ (r .2) (sym (ap (λ (a : ℕ × ℕ × ℕ). a .2) (h .answers)))
+
+    -- after passed none waits
+    pub none-waits : r .0 ≡ 0 → All (λ (x : Slot I). waits (x .mark) ≡ false) (take (r .2) later)
+    none-waits e = subst (All (λ (x : Slot I). waits (x .mark) ≡ false)) (sym filled-is) (go (walk K n) (exhaustive K n) (ap (λ (a : ℕ × ℕ × ℕ). a .0) (h .answers)))
+      where
+        go : (w : Outcome I) → Exhausted w → r .0 ≡ verdict w → All (λ (x : Slot I). waits (x .mark) ≡ false) (stored w)
+        go (passed s) x a = x
+        go (failed y s) x a = absurd (omega (arith, e, a))
+        go (full s) x a = absurd (omega (arith, e, a))
 
     module _ (Fit : I → Type 0) (Misses : I → List ℕ → Type 0) (F : Facts K Fit Misses) where
       -- the verdict and the run are told
@@ -88,7 +101,7 @@ module _ {I : Type 0} (before later : List (Slot I)) where
       module _ (through : Transitive K Fit) where
         -- the verdict is not full
         pub never : (code : I → ℕ) (N : ℕ) → Coded Fit code N → N ≤ n → r .0 ≡ 2 → ⊥
-        never code N C l e = go (walk K n) (roomy K Fit Misses F through code N C n l) (ap (λ (a : ℕ × ℕ × ℕ). a .0) (h .answers))
+        never code N C l e = go (walk K n) (sufficient K Fit Misses F through code N C n l) (ap (λ (a : ℕ × ℕ × ℕ). a .0) (h .answers))
           where
             go : (w : Outcome I) → NotFull w → r .0 ≡ verdict w → ⊥
             go (passed s) f a = omega (arith, e, a)
@@ -97,7 +110,4 @@ module _ {I : Type 0} (before later : List (Slot I)) where
 
         -- no item twice
         pub once : Distinct (items (take (r .2) later))
-        once =
-            subst (λ (s : List (Slot I)). Distinct (items s))
-            (sym (ap (take (r .2)) (h .slots) ∙ take-at (stored (walk K n)) _ (r .2) (sym (ap (λ (a : ℕ × ℕ × ℕ). a .2) (h .answers)))))
-            (spare K Fit Misses F through n)
+        once = subst (λ (s : List (Slot I)). Distinct (items s)) (sym filled-is) (irredundant K Fit Misses F through n)

@@ -1,38 +1,41 @@
 -- The five ways of an offer, and the slots that the program has after it.
-use Prim.Native.Nat.{ℕ, zero, suc, _+_, _≤_, _<_}
+use Prim.Native.Nat.{ℕ, _+_, _≤_, _<_}
 use native.Mathlib.Omega.{arith}
-use native.Mathlib.Numerals.{add-one}
-use mathlib.Core.Path.{_≡_, refl, sym, ap, subst, _∙_}
-use mathlib.Core.Bool.{Bool, true, false, cond}
+use mathlib.Core.Path.{_≡_, refl, sym, ap, _∙_}
+use mathlib.Core.Bool.{Bool, true, false, cond, _||_}
 use mathlib.Core.List.{List, [], _∷_, _++_, map, append-assoc}
 use lib.Dec.{ltb}
 use lib.ListN.{length, take, drop, set, length-map}
-use Rattle.std.proofs.shelf.Lists.{take-at, drop-at, set-at, drop-more, length-take-le, length-append, length-push}
+use Rattle.std.proofs.shelf.Lists.{take-at, drop-at, set-at, drop-more, length-take-le, length-push}
 use Rattle.std.proofs.shelf.Tests.{lt-ltb, le-ltb}
 use Rattle.walk.specs.declared.slot.Slot.{Slot}
 use Rattle.walk.specs.Kinds.{Kind}
 use Rattle.walk.specs.Walks.{failed, full, going, ended, fails, covered, withdraw, store, offer}
 
+either : {A : Type 0} (a b : Bool) (x y : A) → cond a x (cond b x y) ≡ cond (a || b) x y
+either true b x y = refl
+either false b x y = refl
+
 module _ {I : Type 0} (K : Kind I) (n : ℕ) (x : Slot I) (s : List (Slot I)) where
-  pub offer-hit : fails K x ≡ true → offer K n x s ≡ ended (failed x s)
-  unfolding offer
-  offer-hit a = rw a
+  -- the item is hopeless or covered
+  abbrev dropped : Bool
+  dropped = K .hopeless (x .item) || covered K s (x .item)
 
-  pub offer-hopeless : fails K x ≡ false → K .hopeless (x .item) ≡ true → offer K n x s ≡ going s
+  offer-is : offer K n x s ≡ cond (fails K x) (ended (failed x s)) (cond dropped (going s) (cond (ltb (length s) n) (going (store K x s)) (ended (full s))))
   unfolding offer
-  offer-hopeless a b = rw (a, b)
+  offer-is = ap (cond (fails K x) (ended (failed x s))) (either (K .hopeless (x .item)) (covered K s (x .item)) (going s) (cond (ltb (length s) n) (going (store K x s)) (ended (full s))))
 
-  pub offer-covered : fails K x ≡ false → K .hopeless (x .item) ≡ false → covered K s (x .item) ≡ true → offer K n x s ≡ going s
-  unfolding offer
-  offer-covered a b c = rw (a, b, c)
+  pub offer-failed : fails K x ≡ true → offer K n x s ≡ ended (failed x s)
+  offer-failed a = offer-is ∙ rw a
 
-  pub offer-filled : fails K x ≡ false → K .hopeless (x .item) ≡ false → covered K s (x .item) ≡ false → n ≤ length s → offer K n x s ≡ ended (full s)
-  unfolding offer
-  offer-filled a b c l = let e : ltb (length s) n ≡ false = le-ltb (length s) n l in rw (a, b, c, e)
+  pub offer-dropped : fails K x ≡ false → dropped ≡ true → offer K n x s ≡ going s
+  offer-dropped a b = offer-is ∙ rw (a, b)
 
-  pub offer-stored : fails K x ≡ false → K .hopeless (x .item) ≡ false → covered K s (x .item) ≡ false → length s < n → offer K n x s ≡ going (store K x s)
-  unfolding offer
-  offer-stored a b c l = let e : ltb (length s) n ≡ true = lt-ltb (length s) n l in rw (a, b, c, e)
+  pub offer-filled : fails K x ≡ false → dropped ≡ false → n ≤ length s → offer K n x s ≡ ended (full s)
+  offer-filled a b l = let e : ltb (length s) n ≡ false = le-ltb (length s) n l in offer-is ∙ rw (a, b, e)
+
+  pub offer-stored : fails K x ≡ false → dropped ≡ false → length s < n → offer K n x s ≡ going (store K x s)
+  offer-stored a b l = let e : ltb (length s) n ≡ true = lt-ltb (length s) n l in offer-is ∙ rw (a, b, e)
 
 -- the slots as they are when the new one is written after those that withdraw left
 module _ {I : Type 0} (K : Kind I) (x : Slot I) (before : List (Slot I)) (stored : ℕ) (l : stored < length before) where

@@ -13,7 +13,7 @@ use Rattle.walk.specs.Slots.{live, fresh, start, items}
 use Rattle.walk.specs.Kinds.{Kind, Facts, Transitive}
 use Rattle.walk.specs.Walks.{Outcome, passed, failed, full, covered, store, offer, walk}
 use Rattle.walk.specs.Answers.{stored}
-use Rattle.walk.specs.Statements.{NotFull, Coded, Spare, Roomy}
+use Rattle.walk.specs.Statements.{NotFull, Coded, Irredundant, Sufficient}
 use Rattle.walk.proofs.Lists.{all-map, all-both, all-list, all-any}
 use Rattle.walk.proofs.Marks.{Picks, here, there, picks-in, picks-all, picks-any, all-store, any-store, new-store, withdraw-all, offer-cases}
 use Rattle.walk.proofs.Turns.{Left, first, next, children-all, walk-ind}
@@ -58,7 +58,7 @@ module _ {I : Type 0} (K : Kind I) (Fit : I → Type 0) (Misses : I → List ℕ
   store-room x pend s r e = record {
     due = r .due .1;
     fit = all-store K (λ (y : Slot I). Fit (y .item)) (λ y h. h) x fx s (r .fit);
-    spread = all-store K (λ (y : Slot I). Any (Over (y .item)) (store K x s)) (λ y h. h) x (new-store K (Over (x .item)) x s (lx, (fx, F .reflexive (x .item) fx))) s (all-both over s (r .fit) (r .spread));
+    spread = all-store K (λ (y : Slot I). Any (Over (y .item)) (store K x s)) (λ y h. h) x (new-store K (Over (x .item)) x s (lx, (fx, F .covers-itself (x .item) fx))) s (all-both over s (r .fit) (r .spread));
     distinct = rw (items-store x s) (distinct-push (x .item) (items s) (r .distinct) (new (x .item) s e (r .spread)));
   }
     where
@@ -106,8 +106,8 @@ module _ {I : Type 0} (K : Kind I) (Fit : I → Type 0) (Misses : I → List ℕ
         (record { due = all-list (λ (y : Slot I). Fit (y .item) × (y .mark ≡ Waiting)) start (λ k h. (h, refl)) (K .starts) (F .starts-fit); fit = tt; spread = tt; distinct = tt })
 
 -- a theorem: no item is stored twice
-pub spare : {I : Type 0} (K : Kind I) (Fit : I → Type 0) (Misses : I → List ℕ → Type 0) → Spare K Fit Misses
-spare {I} K Fit Misses F through n = walk-room K Fit Misses F through n (λ (w : Outcome I). Distinct (items (stored w))) (λ w h _. h .distinct) (λ x s _ _ _ d. d .1)
+pub irredundant : {I : Type 0} (K : Kind I) (Fit : I → Type 0) (Misses : I → List ℕ → Type 0) → Irredundant K Fit Misses
+irredundant {I} K Fit Misses F through n = walk-room K Fit Misses F through n (λ (w : Outcome I). Distinct (items (stored w))) (λ w h _. h .distinct) (λ x s _ _ _ d. d .1)
 
 -- distinct items have distinct numbers
 coded : {I : Type 0} (Fit : I → Type 0) (code : I → ℕ) (N : ℕ) → Coded Fit code N → (l : List I) → All Fit l → Distinct l → Distinct (map code l)
@@ -116,8 +116,8 @@ coded {I} Fit code N C (i ∷ l) f d =
     (all-list (λ (k : ℕ). code i ≡ k → ⊥) code (λ j h q. h .1 (C .apart i j (f .0) (h .0) q)) l (all-both {P = Fit} {Q = λ (j : I). i ≡ j → ⊥} {R = λ (j : I). Fit j × (i ≡ j → ⊥)} (λ j a b. (a, b)) l (f .1) (d .0)), coded Fit code N C l (f .1) (d .1))
 
 -- a theorem: with as many slots as there are fit items the walk is never full
-pub roomy : {I : Type 0} (K : Kind I) (Fit : I → Type 0) (Misses : I → List ℕ → Type 0) → Roomy K Fit Misses
-roomy {I} K Fit Misses F through code N C n l = walk-room K Fit Misses F through n NotFull (λ w _ h. h) crowded
+pub sufficient : {I : Type 0} (K : Kind I) (Fit : I → Type 0) (Misses : I → List ℕ → Type 0) → Sufficient K Fit Misses
+sufficient {I} K Fit Misses F through code N C n l = walk-room K Fit Misses F through n NotFull (λ w _ h. h) crowded
   where
     crowded : (x : Slot I) (s : List (Slot I)) → n ≤ length s → Fit (x .item) → All (λ (y : Slot I). Fit (y .item)) s → Distinct (x .item ∷ items s) → ⊥
     crowded x s k fx fs d =

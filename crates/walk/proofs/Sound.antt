@@ -94,7 +94,7 @@ module _ {I : Type 0} (K : Kind I) (Fit : I → Type 0) (Misses : I → List ℕ
         go : ((live (y .mark) && K .covers (y .item) i) ≡ true) ⊎ (covered K s i ≡ true) → (covered K s i ≡ true → Held s d w) → Held (y ∷ s) d w
         go (inl a) r =
             let b = and-parts (live (y .mark)) (K .covers (y .item) i) a in
-            inl (b .0, (h .0 .fit, h .0 .low, F .covering (y .item) i w (h .0 .fit) f (b .1) m))
+            inl (b .0, (h .0 .fit, h .0 .low, F .covers-missed (y .item) i w (h .0 .fit) f (b .1) m))
         go (inr a) r = inr (r a)
 
     -- an offer that is dropped
@@ -130,7 +130,7 @@ module _ {I : Type 0} (K : Kind I) (Fit : I → Type 0) (Misses : I → List ℕ
         lx = ap live (u .waits)
 
         care : (k : ℕ) (w : List ℕ) → Cared s d (x ∷ pend) k w → Cared t d pend k w
-        care k w (inl h) = inl (any-store K (Has k w) x lx (λ y a q b. (u .fit, omega arith, F .covering (x .item) (y .item) w (u .fit) (a .0) b (a .2))) s h)
+        care k w (inl h) = inl (any-store K (Has k w) x lx (λ y a q b. (u .fit, omega arith, F .covers-missed (x .item) (y .item) w (u .fit) (a .0) b (a .2))) s h)
         care k w (inr (l, inl m)) = inl (new-store K (λ (y : Slot I). (live (y .mark) ≡ true) × Has k w y) x s (lx, (u .fit, omega arith, m)))
         care k w (inr (l, inr m)) = inr (l, m)
 
@@ -154,7 +154,7 @@ module _ {I : Type 0} (K : Kind I) (Fit : I → Type 0) (Misses : I → List ℕ
           go (inr e) = none-next (suc (y .depth)) w rec (down (suc (y .depth) + length w) (y .depth + suc (length w)) (omega arith) b) (cl e c w m)
 
       none : (v : List ℕ) → All (None v) s
-      none [] = all-map (λ y g l b m. true≢false (sym (F .empty (y .item) (g .fit) .1 m) ∙ g .clean)) s (i .good)
+      none [] = all-map (λ y g l b m. true≢false (sym (F .hit-empty (y .item) (g .fit) .1 m) ∙ g .clean)) s (i .good)
       none (c ∷ w) = all-both (none-step c w (none w)) s stop (i .closed)
 
       none-missed : (v : List ℕ) → Missed K Misses v → B (length v) → ⊥
@@ -173,7 +173,7 @@ module _ {I : Type 0} (K : Kind I) (Fit : I → Type 0) (Misses : I → List ℕ
 
     failed-says : (s : List (Slot I)) (d : ℕ) (x : Slot I) (pend : List (Slot I)) → Inv s d (x ∷ pend) → K .hit (x .item) ≡ true → Says K Misses (failed x s)
     failed-says s d x pend i e =
-        (subst (Missed K Misses) (trail-whole s (x .depth) (x .parent) (x .command)) (trail-missed s (i .rooted) (x .depth) (x .parent) (x .command) (x .item) [] (i .due .0 .rooted) (F .empty (x .item) (i .due .0 .fit) .0 e)), shortest)
+        (subst (Missed K Misses) (trail-whole s (x .depth) (x .parent) (x .command)) (trail-missed s (i .rooted) (x .depth) (x .parent) (x .command) (x .item) [] (i .due .0 .rooted) (F .hit-empty (x .item) (i .due .0 .fit) .0 e)), shortest)
       where
         shortest : (v : List ℕ) → Missed K Misses v → length (run-of s x) ≤ length v
         shortest v m = go (cases-lt (length v) d)
@@ -189,7 +189,7 @@ module _ {I : Type 0} (K : Kind I) (Fit : I → Type 0) (Misses : I → List ℕ
       offer-keeps : (x : Slot I) (pend s : List (Slot I)) → Kept (x ∷ pend) s → Left (Kept pend) (Says K Misses) (offer K n x s)
       offer-keeps x pend s (d, i) = offer-cases K n x s (Left (Kept pend) (Says K Misses))
           (λ e. failed-says s d x pend i (sym (fails-hit K x) ∙ e))
-          (λ e h. (d, drop-inv s d x pend i (λ w m. absurd (F .hopeless (x .item) w (i .due .0 .fit) h m))))
+          (λ e h. (d, drop-inv s d x pend i (λ w m. absurd (F .hopeless-none (x .item) w (i .due .0 .fit) h m))))
           (λ e h. (d, drop-inv s d x pend i (λ w m. covered-held d (x .item) w (i .due .0 .fit) m s (i .good) h)))
           (λ e h l. (d, store-inv s d x pend i (sym (fails-hit K x) ∙ e)))
           (λ _ _. tt)

@@ -12,7 +12,7 @@ use Rattle.walk.specs.Lists.{All}
 use Rattle.walk.specs.Slots.{waits, fresh, start}
 use Rattle.walk.specs.Kinds.{Kind}
 use Rattle.walk.specs.Walks.{Outcome, passed, failed, full, Step, going, ended, Pick, nothing, taking, after, finally, pick, fails, covered, store, offer, offers, children, turn, turns, walk}
-use Rattle.walk.specs.Statements.{NotFull, Steady}
+use Rattle.walk.specs.Statements.{NotFull, Persistent, Exhausted, Exhaustive}
 use Rattle.walk.proofs.Lists.{all-append}
 use Rattle.walk.proofs.Marks.{Picks, Picked, picked, picks-waits, picks-in, waitings, picks-length, picks-waitings, none-waiting, store-length, store-waitings, offer-cases}
 
@@ -167,6 +167,10 @@ module _ {I : Type 0} (K : Kind I) where
         finally-more (offers K n first []) (offers K m first []) (λ u. turns K n n u) (λ u. turns K m m u) (offers-more first [])
         (λ u q k. turns-more n m u (enough-offers n n first [] u (record { turns = omega arith; fits = omega arith }) q) (enough-offers m m first [] u (record { turns = omega arith; fits = omega arith }) (offers-more first [] (rw q tt) ∙ q)) k) h
 
-  -- the theorem
-  pub steady : Steady K
-  steady n m l h = walk-more n m l h
+  -- a theorem: more slots keep the outcome
+  pub persistent : Persistent K
+  persistent n m l h = walk-more n m l h
+
+  -- a theorem: passed comes only where nothing waits
+  pub exhaustive : Exhaustive K
+  exhaustive n = walk-ind n (λ _ _. Unit {0}) Exhausted (λ x pend s _. offer-cases K n x s (Left (λ _. Unit {0}) Exhausted) (λ _. tt) (λ _ _. tt) (λ _ _. tt) (λ _ _ _. tt) (λ _ _. tt)) (λ _ _ _ _ _ _. tt) (λ s _ h. h) tt

@@ -23,10 +23,10 @@ pub record Kind (I : Type 0) : Type 0 where
 pub record Facts {I : Type 0} (K : Kind I) (Fit : I → Type 0) (Misses : I → List ℕ → Type 0) : Type 0 where
   pub starts-fit : All Fit (K .starts)
   pub successors-fit : (i : I) (c : ℕ) → Fit i → c < K .commands → All Fit (K .successors i c)
-  pub reflexive : (i : I) → Fit i → K .covers i i ≡ true
-  pub covering : (i j : I) (w : List ℕ) → Fit i → Fit j → K .covers i j ≡ true → Misses j w → Misses i w
-  pub hopeless : (i : I) (w : List ℕ) → Fit i → K .hopeless i ≡ true → Misses i w → ⊥
-  pub empty : (i : I) → Fit i → (K .hit i ≡ true) ↔ Misses i []
+  pub covers-itself : (i : I) → Fit i → K .covers i i ≡ true
+  pub covers-missed : (i j : I) (w : List ℕ) → Fit i → Fit j → K .covers i j ≡ true → Misses j w → Misses i w
+  pub hopeless-none : (i : I) (w : List ℕ) → Fit i → K .hopeless i ≡ true → Misses i w → ⊥
+  pub hit-empty : (i : I) → Fit i → (K .hit i ≡ true) ↔ Misses i []
   pub onward : (i : I) (c : ℕ) (w : List ℕ) → Fit i → Misses i (c ∷ w) ↔ ((c < K .commands) × Any (λ (k : I). Misses k w) (K .successors i c))
 
 -- Covering is transitive. Only that no item is stored twice, and so that the walk is never full, rests on it.

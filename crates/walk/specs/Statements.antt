@@ -1,10 +1,11 @@
 -- What follows of the walk, for any kind of search.
 use Prim.Native.Nat.{ℕ, _≤_, _<_}
 use mathlib.Core.Path.{_≡_}
+use mathlib.Core.Bool.{false}
 use mathlib.Core.List.{List}
 use lib.ListN.{length, take}
-use Rattle.walk.specs.Lists.{Distinct}
-use Rattle.walk.specs.Slots.{items}
+use Rattle.walk.specs.Lists.{All, Distinct}
+use Rattle.walk.specs.Slots.{waits, items}
 use Rattle.walk.specs.Kinds.{Kind, Facts, Transitive, Missed}
 use Rattle.walk.specs.Walks.{Outcome, passed, failed, full, walk}
 use Rattle.walk.specs.Answers.{usable, verdict, run, stored, Leaves}
@@ -37,16 +38,25 @@ abbrev pub Sound : {I : Type 0} → Kind I → (I → Type 0) → (I → List �
 Sound K Fit Misses = Facts K Fit Misses → (n : ℕ) → Says K Misses (walk K n)
 
 -- more slots keep an outcome that is not full: verdict, run and slots
-abbrev pub Steady : {I : Type 0} → Kind I → Type 0
-Steady K = (n m : ℕ) → n ≤ m → NotFull (walk K n) → walk K m ≡ walk K n
+abbrev pub Persistent : {I : Type 0} → Kind I → Type 0
+Persistent K = (n m : ℕ) → n ≤ m → NotFull (walk K n) → walk K m ≡ walk K n
+
+-- passed comes only where nothing waits: the bound on the number of turns never ends the walk
+abbrev pub Exhausted : {I : Type 0} → Outcome I → Type 0
+Exhausted {I} (passed s) = All (λ (x : Slot I). waits (x .mark) ≡ false) s
+Exhausted (failed x s) = Unit {0}
+Exhausted (full s) = Unit {0}
+
+abbrev pub Exhaustive : {I : Type 0} → Kind I → Type 0
+Exhaustive K = (n : ℕ) → Exhausted (walk K n)
 
 -- no item is stored twice, withdrawn ones included
-abbrev pub Spare : {I : Type 0} → Kind I → (I → Type 0) → (I → List ℕ → Type 0) → Type 0
-Spare K Fit Misses = Facts K Fit Misses → Transitive K Fit → (n : ℕ) → Distinct (items (stored (walk K n)))
+abbrev pub Irredundant : {I : Type 0} → Kind I → (I → Type 0) → (I → List ℕ → Type 0) → Type 0
+Irredundant K Fit Misses = Facts K Fit Misses → Transitive K Fit → (n : ℕ) → Distinct (items (stored (walk K n)))
 
 -- as many slots as there are fit items are enough
-abbrev pub Roomy : {I : Type 0} → Kind I → (I → Type 0) → (I → List ℕ → Type 0) → Type 0
-Roomy {I} K Fit Misses = Facts K Fit Misses → Transitive K Fit → (code : I → ℕ) (N : ℕ) → Coded Fit code N → (n : ℕ) → N ≤ n → NotFull (walk K n)
+abbrev pub Sufficient : {I : Type 0} → Kind I → (I → Type 0) → (I → List ℕ → Type 0) → Type 0
+Sufficient {I} K Fit Misses = Facts K Fit Misses → Transitive K Fit → (code : I → ℕ) (N : ℕ) → Coded Fit code N → (n : ℕ) → N ≤ n → NotFull (walk K n)
 
 -- Of an answer, where there is one, and of what the slots and the run buffer then hold.
 
@@ -74,3 +84,8 @@ NeverFull {I} Fit (Some r) n = (code : I → ℕ) (N : ℕ) → Coded Fit code N
 abbrev pub NoItemTwice : {I : Type 0} → Option (ℕ × ℕ × ℕ) → List (Slot I) → Type 0
 NoItemTwice None later = Unit {0}
 NoItemTwice (Some r) later = Distinct (items (take (r .2) later))
+
+-- after passed none of the stored items waits
+abbrev pub NoneWaits : {I : Type 0} → Option (ℕ × ℕ × ℕ) → List (Slot I) → Type 0
+NoneWaits None later = Unit {0}
+NoneWaits {I} (Some r) later = r .0 ≡ 0 → All (λ (x : Slot I). waits (x .mark) ≡ false) (take (r .2) later)

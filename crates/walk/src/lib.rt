@@ -4,8 +4,8 @@
 //! a stored one covers, takes them in turn, and hands back a shortest run that is missed, or says that there is none.
 //! What the walk is stands in `specs/Walks.antt`, and what follows from it in `specs/Statements.antt`.
 
-pub mod offer;
-pub mod run;
+mod offer;
+mod run;
 pub mod search;
 pub mod slot;
 pub mod walk;

@@ -1,4 +1,5 @@
 ghost use mathlib.Core.Path.{_≡_};
+ghost use mathlib.Core.Bool.{_||_};
 ghost use mathlib.Core.List.{_++_, map};
 ghost use Prim.Native.Nat.{ℕ, _+_, _*_, _/_, _%_, _^_, _<_, _≤_};
 ghost use lib.ListN.{length, take, drop};
@@ -12,7 +13,7 @@ use crate::slot::Slot;
 
 /// How a walk ended: with how many stored items, and after failed with the slot that the hit would have filled.
 #[derive(Copy)]
-pub enum Ending<I> {
+pub(crate) enum Ending<I> {
     Passed(usize),
     Failed(Slot<I>, usize),
     Full(usize),
@@ -20,14 +21,14 @@ pub enum Ending<I> {
 
 /// How far a walk has come: it goes on, with how many stored items, or it has ended.
 #[derive(Copy)]
-pub enum Progress<I> {
+pub(crate) enum Progress<I> {
     Going(usize),
     Ended(Ending<I>),
 }
 
 /// Whether the offer of this slot ends the walk with failed. A start is tested as any other item is.
 fn fails<S: Search>(search: &S, new: &Slot<S::Item>) -> bool
-    ensures { λ r. ⌜ r ≡ failsOf (S·Search .kind (now (search .entry))) (now (new .entry)) ⌝ }
+    ensures { λ r. let s = now (search .entry) in ⌜ r ≡ failsOf (S·Search .kind s) (now (new .entry)) ⌝ }
 {
     search.hit(new.item)
 }
@@ -35,7 +36,7 @@ fn fails<S: Search>(search: &S, new: &Slot<S::Item>) -> bool
 /// Whether some stored item that is not withdrawn covers `item`.
 fn covered<S: Search>(search: &S, slots: &[Slot<S::Item>], stored: usize, item: S::Item) -> bool
     requires { ⌜ stored ≤ length (now slots) ⌝ }
-    ensures { λ r. ⌜ r ≡ coveredOf (S·Search .kind (now (search .entry))) (take stored (now (slots .entry))) item ⌝ }
+    ensures { λ r. let s = now (search .entry) in ⌜ r ≡ coveredOf (S·Search .kind s) (take stored (now (slots .entry))) item ⌝ }
 {
     for k in 0..stored {
         if slots[k].mark.live() && search.covers(slots[k].item, item) {
@@ -45,9 +46,17 @@ fn covered<S: Search>(search: &S, slots: &[Slot<S::Item>], stored: usize, item: 
     false
 }
 
+/// Whether an item that is no hit is dropped: it is hopeless, or a stored item covers it.
+fn dropped<S: Search>(search: &S, slots: &[Slot<S::Item>], stored: usize, item: S::Item) -> bool
+    requires { ⌜ stored ≤ length (now slots) ⌝ }
+    ensures { λ r. let s = now (search .entry) in ⌜ r ≡ (S·Search .kind s .hopeless item || coveredOf (S·Search .kind s) (take stored (now (slots .entry))) item) ⌝ }
+{
+    search.hopeless(item) || covered(search, slots, stored, item)
+}
+
 /// Whether a new slot withdraws this one: it waits, at the same depth, and the new item covers its item.
 fn yields<S: Search>(search: &S, slot: &Slot<S::Item>, new: &Slot<S::Item>) -> bool
-    ensures { λ r. ⌜ r ≡ yieldsOf (S·Search .kind (now (search .entry))) (now (new .entry)) (now (slot .entry)) ⌝ }
+    ensures { λ r. let s = now (search .entry) in ⌜ r ≡ yieldsOf (S·Search .kind s) (now (new .entry)) (now (slot .entry)) ⌝ }
 {
     slot.mark.waits() && slot.depth == new.depth && search.covers(new.item, slot.item)
 }
@@ -55,7 +64,7 @@ fn yields<S: Search>(search: &S, slot: &Slot<S::Item>, new: &Slot<S::Item>) -> b
 /// Withdraws each stored slot that yields to the new one.
 fn withdraw<S: Search>(search: &S, slots: &mut [Slot<S::Item>], stored: usize, new: &Slot<S::Item>)
     requires { ⌜ stored ≤ length (now slots) ⌝ }
-    ensures { λ _. ⌜ now (slots .exit) ≡ map (withdrawOf (S·Search .kind (now (search .entry))) (now (new .entry))) (take stored (now (slots .entry))) ++ drop stored (now (slots .entry)) ⌝ }
+    ensures { λ _. let s = now (search .entry) in ⌜ now (slots .exit) ≡ map (withdrawOf (S·Search .kind s) (now (new .entry))) (take stored (now (slots .entry))) ++ drop stored (now (slots .entry)) ⌝ }
 {
     for i in 0..stored {
         if yields(search, &slots[i], new) {
@@ -73,16 +82,13 @@ fn offer<S: Search>(
     new: Slot<S::Item>,
 ) -> Progress<S::Item>
     requires { ⌜ stored ≤ usable ⌝ ∗ ⌜ usable ≤ length (now slots) ⌝ }
-    ensures { λ r. ⌜ Reaches (offerOf (S·Search .kind (now (search .entry))) usable new (take stored (now (slots .entry)))) r stored usable (now (slots .entry)) (now (slots .exit)) ⌝ }
+    ensures { λ r. let s = now (search .entry) in ⌜ Reaches (offerOf (S·Search .kind s) usable new (take stored (now (slots .entry)))) r stored usable (now (slots .entry)) (now (slots .exit)) ⌝ }
 {
     let item = new.item;
     if fails(search, &new) {
         return Progress::Ended(Ending::Failed(new, stored));
     }
-    if search.hopeless(item) {
-        return Progress::Going(stored);
-    }
-    if covered(search, slots, stored, item) {
+    if dropped(search, slots, stored, item) {
         return Progress::Going(stored);
     }
     if stored == usable {
@@ -125,7 +131,7 @@ pub(crate) fn offer_fan<S: Search>(
     origin: Origin,
 ) -> Progress<S::Item>
     requires { ⌜ stored ≤ usable ⌝ ∗ ⌜ usable ≤ length (now slots) ⌝ }
-    ensures { λ r. ⌜ Reaches (offersOf (S·Search .kind (now (search .entry))) usable (map (reached-by origin) (fan (S·Search .with (now (search .entry))) heads base)) (take stored (now (slots .entry)))) r stored usable (now (slots .entry)) (now (slots .exit)) ⌝ }
+    ensures { λ r. let s = now (search .entry) in ⌜ Reaches (offersOf (S·Search .kind s) usable (map (reached-by origin) (fan (S·Search .with s) heads base)) (take stored (now (slots .entry)))) r stored usable (now (slots .entry)) (now (slots .exit)) ⌝ }
 {
     let mut filled = stored;
     for head in 0..32 {
@@ -151,7 +157,7 @@ pub(crate) fn expand<S: Search>(
     taken: Slot<S::Item>,
 ) -> Progress<S::Item>
     requires { ⌜ stored ≤ usable ⌝ ∗ ⌜ usable ≤ length (now slots) ⌝ ∗ ⌜ taken .depth < 4096 ⌝ }
-    ensures { λ r. ⌜ Reaches (offersOf (S·Search .kind (now (search .entry))) usable (children (S·Search .kind (now (search .entry))) at taken (S·Search .kind (now (search .entry)) .commands) 0) (take stored (now (slots .entry)))) r stored usable (now (slots .entry)) (now (slots .exit)) ⌝ }
+    ensures { λ r. let s = now (search .entry) in ⌜ Reaches (offersOf (S·Search .kind s) usable (children (S·Search .kind s) at taken (S·Search .kind s .commands) 0) (take stored (now (slots .entry)))) r stored usable (now (slots .entry)) (now (slots .exit)) ⌝ }
 {
     let item = taken.item;
     let depth = taken.depth + 1;

@@ -14,12 +14,16 @@ pub trait Search: Sized {
     /// What the walk stores: small, and copied.
     type Item: Copy + Drop;
 
+    /// All that the walk asks: starts, successors, the three tests and the number of commands.
     ghost kind: { Self → Kind Self·Item };
 
+    /// The item with a head put into it.
     ghost with: { Self → Self·Item → ℕ → Self·Item };
 
+    /// The items of which the facts of a search are shown.
     ghost fit: { Self → Self·Item → Type 0 };
 
+    /// The runs that an item misses.
     ghost misses: { Self → Self·Item → List ℕ → Type 0 };
 
     /// The number of commands: they are 0 up to it.

@@ -42,16 +42,21 @@ impl Mark {
 /// slot `parent`, and one deeper.
 #[derive(Clone, Copy)]
 pub struct Slot<I> {
+    /// What is stored.
     pub item: I,
+    /// How many commands lead to it.
     pub depth: u16,
+    /// The number of the slot whose item it is a successor of.
     pub parent: u16,
+    /// The command under which it is one.
     pub command: u8,
+    /// What has become of it.
     pub mark: Mark,
 }
 
 /// How items are reached that are offered together: all of a slot but its item and its mark.
 #[derive(Clone, Copy)]
-pub struct Origin {
+pub(crate) struct Origin {
     pub depth: u16,
     pub parent: u16,
     pub command: u8,

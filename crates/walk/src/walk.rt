@@ -6,7 +6,7 @@ ghost use Rattle.walk.specs.Kinds.{Facts, Transitive};
 ghost use Rattle.walk.specs.Walks.{pick, walk as walkOf};
 ghost use Rattle.walk.specs.Progress.{chosen as chosenOf, marked as markedOf, Ends};
 ghost use Rattle.walk.specs.Answers.{usable as usableOf, Walked};
-ghost use Rattle.walk.specs.Statements.{Means, SameWithMore, NeverFull, NoItemTwice};
+ghost use Rattle.walk.specs.Statements.{Means, SameWithMore, NeverFull, NoItemTwice, NoneWaits};
 use crate::offer::Ending;
 use crate::offer::Progress;
 use crate::offer::expand;
@@ -36,7 +36,7 @@ fn take_lowest<I: Copy + Drop>(slots: &mut [Slot<I>], stored: usize) -> Option<(
 /// Walks over the first `usable` slots until the walk ends.
 fn settle<S: Search>(search: &S, slots: &mut [Slot<S::Item>], usable: usize) -> Ending<S::Item>
     requires { ⌜ usable ≤ length (now slots) ⌝ ∗ ⌜ usable ≤ 4096 ⌝ }
-    ensures { λ r. ⌜ Ends (walkOf (S·Search .kind (now (search .entry))) usable) r usable (now (slots .entry)) (now (slots .exit)) ⌝ }
+    ensures { λ r. let s = now (search .entry) in ⌜ Ends (walkOf (S·Search .kind s) usable) r usable (now (slots .entry)) (now (slots .exit)) ⌝ }
 {
     let (heads, base) = search.starts();
     let start = Origin {
@@ -74,17 +74,18 @@ fn usable(len: usize) -> usize
 /// Where the kind has the facts of a search: passed means that no start misses any run; failed means that a start
 /// misses the run in the buffer, and that no start misses a shorter one. Unless full, more slots give the same
 /// answer, slots and run. Where covering is transitive too, no item is stored twice, so the answer is never full once
-/// there are as many usable slots as fit items.
+/// there are as many usable slots as fit items. Whatever the kind, no stored item waits after passed.
 pub fn walk<S: Search>(
     search: &S,
     slots: &mut [Slot<S::Item>],
     run: &mut [u8],
 ) -> Option<(u8, usize, usize)>
-    ensures leaves { λ r. ⌜ Walked (S·Search .kind (now (search .entry))) r (now (slots .entry)) (now (slots .exit)) (now (run .entry)) (now (run .exit)) ⌝ }
-    ensures means { λ r. ⌜ (Facts (S·Search .kind (now (search .entry))) (S·Search .fit (now (search .entry))) (S·Search .misses (now (search .entry))) → Means (S·Search .kind (now (search .entry))) (S·Search .misses (now (search .entry))) r (now (run .exit))) ⌝ }
-    ensures more_slots_same_answer { λ r. ⌜ SameWithMore (S·Search .kind (now (search .entry))) r (now (slots .entry)) (now (slots .exit)) (now (run .entry)) (now (run .exit)) ⌝ }
-    ensures never_full { λ r. ⌜ (Facts (S·Search .kind (now (search .entry))) (S·Search .fit (now (search .entry))) (S·Search .misses (now (search .entry))) → Transitive (S·Search .kind (now (search .entry))) (S·Search .fit (now (search .entry))) → NeverFull (S·Search .fit (now (search .entry))) r (usableOf (now (slots .entry)))) ⌝ }
-    ensures no_item_twice { λ r. ⌜ (Facts (S·Search .kind (now (search .entry))) (S·Search .fit (now (search .entry))) (S·Search .misses (now (search .entry))) → Transitive (S·Search .kind (now (search .entry))) (S·Search .fit (now (search .entry))) → NoItemTwice r (now (slots .exit))) ⌝ }
+    ensures leaves { λ r. let s = now (search .entry) in ⌜ Walked (S·Search .kind s) r (now (slots .entry)) (now (slots .exit)) (now (run .entry)) (now (run .exit)) ⌝ }
+    ensures means { λ r. let s = now (search .entry) in ⌜ (Facts (S·Search .kind s) (S·Search .fit s) (S·Search .misses s) → Means (S·Search .kind s) (S·Search .misses s) r (now (run .exit))) ⌝ }
+    ensures more_slots_same_answer { λ r. let s = now (search .entry) in ⌜ SameWithMore (S·Search .kind s) r (now (slots .entry)) (now (slots .exit)) (now (run .entry)) (now (run .exit)) ⌝ }
+    ensures never_full { λ r. let s = now (search .entry) in ⌜ (Facts (S·Search .kind s) (S·Search .fit s) (S·Search .misses s) → Transitive (S·Search .kind s) (S·Search .fit s) → NeverFull (S·Search .fit s) r (usableOf (now (slots .entry)))) ⌝ }
+    ensures no_item_twice { λ r. let s = now (search .entry) in ⌜ (Facts (S·Search .kind s) (S·Search .fit s) (S·Search .misses s) → Transitive (S·Search .kind s) (S·Search .fit s) → NoItemTwice r (now (slots .exit))) ⌝ }
+    ensures passed_none_waits { λ r. ⌜ NoneWaits r (now (slots .exit)) ⌝ }
 {
     let usable = usable(slots.len());
     if run.len() < usable {

@@ -6,28 +6,20 @@ use lib.ListN.{length, take, set}
 use Rattle.std.proofs.shelf.Lists.{length-take-le}
 use Rattle.walk.specs.Walks.{going}
 use Rattle.walk.specs.declared.slot.Slot.{Slot}
-use Rattle.walk.proofs.Offering.{offer-hit, offer-hopeless, offer-covered, offer-filled, offer-stored, stored-take, stored-drop}
+use Rattle.walk.proofs.Offering.{offer-failed, offer-dropped, offer-filled, offer-stored, stored-take, stored-drop}
 use Rattle.walk.proofs.offer.offer.Needs as need
 
 pub returns-then-fails : need.returns-then-fails
 returns-then-fails g c = record {
-  is = offer-hit (g .S·Search .kind (c .args .search .now)) (c .args .usable) (c .args .new) (take (c .args .stored) (c .args .slots .now)) (sym (c .if-fails .ensures tt));
+  is = offer-failed (g .S·Search .kind (c .args .search .now)) (c .args .usable) (c .args .new) (take (c .args .stored) (c .args .slots .now)) (sym (c .if-fails .ensures tt));
   beyond = refl;
   low = omega arith;
   high = omega arith;
 }
 
-pub returns-then-hopeless : need.returns-then-hopeless
-returns-then-hopeless g c = record {
-  is = offer-hopeless (g .S·Search .kind (c .args .search .now)) (c .args .usable) (c .args .new) (take (c .args .stored) (c .args .slots .now)) (sym (c .fails .ensures) ∙ c .if-fails .left) (sym (c .if-hopeless .ensures tt));
-  beyond = refl;
-  low = omega arith;
-  high = omega arith;
-}
-
-pub returns-then-covered : need.returns-then-covered
-returns-then-covered g c = record {
-  is = offer-covered (g .S·Search .kind (c .args .search .now)) (c .args .usable) (c .args .new) (take (c .args .stored) (c .args .slots .now)) (sym (c .fails .ensures) ∙ c .if-fails .left) (sym (c .hopeless .ensures) ∙ c .if-hopeless .left) (sym (c .if-covered .ensures tt));
+pub returns-then-dropped : need.returns-then-dropped
+returns-then-dropped g c = record {
+  is = offer-dropped (g .S·Search .kind (c .args .search .now)) (c .args .usable) (c .args .new) (take (c .args .stored) (c .args .slots .now)) (sym (c .fails .ensures) ∙ c .if-fails .left) (sym (c .if-dropped .ensures tt));
   beyond = refl;
   low = omega arith;
   high = omega arith;
@@ -35,7 +27,7 @@ returns-then-covered g c = record {
 
 pub returns-then-stored-usable : need.returns-then-stored-usable
 returns-then-stored-usable g c = record {
-  is = offer-filled (g .S·Search .kind (c .args .search .now)) (c .args .usable) (c .args .new) (take (c .args .stored) (c .args .slots .now)) (sym (c .fails .ensures) ∙ c .if-fails .left) (sym (c .hopeless .ensures) ∙ c .if-hopeless .left) (sym (c .covered .ensures) ∙ c .if-covered .left)
+  is = offer-filled (g .S·Search .kind (c .args .search .now)) (c .args .usable) (c .args .new) (take (c .args .stored) (c .args .slots .now)) (sym (c .fails .ensures) ∙ c .if-fails .left) (sym (c .dropped .ensures) ∙ c .if-dropped .left)
       (let e : c .args .stored ≤ length (c .args .slots .now) = omega arith in omega (arith, length-take-le (c .args .stored) (c .args .slots .now) e));
   beyond = refl;
   low = omega arith;
@@ -48,7 +40,7 @@ returns g c =
     let l : c .args .stored < length (c .args .slots .now) = omega arith in
     let w = ap (λ (t : List (Slot (g .S·Item .Denot))). set t (c .args .stored) (c .args .new)) (c .withdraw .ensures) in
     record {
-      is = offer-stored (g .S·Search .kind (c .args .search .now)) (c .args .usable) (c .args .new) (take (c .args .stored) (c .args .slots .now)) (sym (c .fails .ensures) ∙ c .if-fails .left) (sym (c .hopeless .ensures) ∙ c .if-hopeless .left) (sym (c .covered .ensures) ∙ c .if-covered .left)
+      is = offer-stored (g .S·Search .kind (c .args .search .now)) (c .args .usable) (c .args .new) (take (c .args .stored) (c .args .slots .now)) (sym (c .fails .ensures) ∙ c .if-fails .left) (sym (c .dropped .ensures) ∙ c .if-dropped .left)
           (omega (arith, length-take-le (c .args .stored) (c .args .slots .now) e))
           ∙ ap (λ (t : List (Slot (g .S·Item .Denot))). going t) (stored-take (g .S·Search .kind (c .args .search .now)) (c .args .new) (c .args .slots .now) (c .args .stored) l _ w);
       beyond = stored-drop (g .S·Search .kind (c .args .search .now)) (c .args .new) (c .args .slots .now) (c .args .stored) l _ w;

@@ -1,6 +1,6 @@
 use native.Mathlib.Omega.{arith}
 use Rattle.walk.specs.Answers.{usable}
-use Rattle.walk.proofs.Leaving.{leaves-passed, leaves-full, leaves-failed, leaves-more, tells, never, once}
+use Rattle.walk.proofs.Leaving.{leaves-passed, leaves-full, leaves-failed, leaves-more, tells, never, once, none-waits}
 use Rattle.walk.proofs.walk.walk.Needs as need
 
 pub returns-in-Passed : need.returns-in-Passed
@@ -13,6 +13,7 @@ returns-in-Passed g c =
       more-slots-same-answer = λ f m l. leaves-more (c .args .slots .now) (c .settle .last .slots) (g .S·Search .kind (c .args .search .now)) (usable (c .args .slots .now)) (0, 0, c .in-Passed .stored) (c .args .run .now) (c .args .run .now) h f m l;
       never-full = λ F through code N C l. never (c .args .slots .now) (c .settle .last .slots) (g .S·Search .kind (c .args .search .now)) (usable (c .args .slots .now)) (0, 0, c .in-Passed .stored) (c .args .run .now) (c .args .run .now) h (g .S·Search .fit (c .args .search .now)) (g .S·Search .misses (c .args .search .now)) F through code N C l;
       no-item-twice = λ F through. once (c .args .slots .now) (c .settle .last .slots) (g .S·Search .kind (c .args .search .now)) (usable (c .args .slots .now)) (0, 0, c .in-Passed .stored) (c .args .run .now) (c .args .run .now) h (g .S·Search .fit (c .args .search .now)) (g .S·Search .misses (c .args .search .now)) F through;
+      passed-none-waits = λ e. none-waits (c .args .slots .now) (c .settle .last .slots) (g .S·Search .kind (c .args .search .now)) (usable (c .args .slots .now)) (0, 0, c .in-Passed .stored) (c .args .run .now) (c .args .run .now) h e;
     }
 
 pub returns-in-Full : need.returns-in-Full
@@ -25,6 +26,7 @@ returns-in-Full g c =
       more-slots-same-answer = λ f m l. leaves-more (c .args .slots .now) (c .settle .last .slots) (g .S·Search .kind (c .args .search .now)) (usable (c .args .slots .now)) (2, 0, c .in-Full .stored) (c .args .run .now) (c .args .run .now) h f m l;
       never-full = λ F through code N C l. never (c .args .slots .now) (c .settle .last .slots) (g .S·Search .kind (c .args .search .now)) (usable (c .args .slots .now)) (2, 0, c .in-Full .stored) (c .args .run .now) (c .args .run .now) h (g .S·Search .fit (c .args .search .now)) (g .S·Search .misses (c .args .search .now)) F through code N C l;
       no-item-twice = λ F through. once (c .args .slots .now) (c .settle .last .slots) (g .S·Search .kind (c .args .search .now)) (usable (c .args .slots .now)) (2, 0, c .in-Full .stored) (c .args .run .now) (c .args .run .now) h (g .S·Search .fit (c .args .search .now)) (g .S·Search .misses (c .args .search .now)) F through;
+      passed-none-waits = λ e. none-waits (c .args .slots .now) (c .settle .last .slots) (g .S·Search .kind (c .args .search .now)) (usable (c .args .slots .now)) (2, 0, c .in-Full .stored) (c .args .run .now) (c .args .run .now) h e;
     }
 
 pub returns-in-Failed : need.returns-in-Failed
@@ -37,4 +39,5 @@ returns-in-Failed g c =
       more-slots-same-answer = λ f m l. leaves-more (c .args .slots .now) (c .settle .last .slots) (g .S·Search .kind (c .args .search .now)) (usable (c .args .slots .now)) (1, c .trace-long .result, c .in-Failed .stored) (c .args .run .now) (c .trace-long .last .run) h f m l;
       never-full = λ F through code N C l. never (c .args .slots .now) (c .settle .last .slots) (g .S·Search .kind (c .args .search .now)) (usable (c .args .slots .now)) (1, c .trace-long .result, c .in-Failed .stored) (c .args .run .now) (c .trace-long .last .run) h (g .S·Search .fit (c .args .search .now)) (g .S·Search .misses (c .args .search .now)) F through code N C l;
       no-item-twice = λ F through. once (c .args .slots .now) (c .settle .last .slots) (g .S·Search .kind (c .args .search .now)) (usable (c .args .slots .now)) (1, c .trace-long .result, c .in-Failed .stored) (c .args .run .now) (c .trace-long .last .run) h (g .S·Search .fit (c .args .search .now)) (g .S·Search .misses (c .args .search .now)) F through;
+      passed-none-waits = λ e. none-waits (c .args .slots .now) (c .settle .last .slots) (g .S·Search .kind (c .args .search .now)) (usable (c .args .slots .now)) (1, c .trace-long .result, c .in-Failed .stored) (c .args .run .now) (c .trace-long .last .run) h e;
     }
