@@ -27,3 +27,5 @@ pub mod Listed
 pub mod Matched
 pub mod Tested
 pub mod TestedCases
+pub mod Sided
+pub mod Reduced

@@ -15,3 +15,4 @@ pub mod Searches
 pub mod Greatest
 pub mod Refining
 pub mod Testing
+pub mod Reducing

@@ -1,0 +1,4 @@
+pub mod Pairs
+pub mod StateSets
+pub mod Comparing
+pub mod Opening

@@ -1,0 +1,17 @@
+pub mod Lists
+pub mod Marks
+pub mod Turns
+pub mod Trails
+pub mod Sound
+pub mod Counting
+pub mod Room
+pub mod Standing
+pub mod Depths
+pub mod Covering
+pub mod Withdrawing
+pub mod Offering
+pub mod Fanning
+pub mod Expanding
+pub mod Picking
+pub mod Walking
+pub mod Leaving

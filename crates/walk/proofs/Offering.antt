@@ -1,0 +1,62 @@
+-- The five ways of an offer, and the slots that the program has after it.
+use Prim.Native.Nat.{ℕ, _+_, _≤_, _<_}
+use native.Mathlib.Omega.{arith}
+use mathlib.Core.Path.{_≡_, refl, sym, ap, _∙_}
+use mathlib.Core.Bool.{Bool, true, false, cond, _||_}
+use mathlib.Core.List.{List, [], _∷_, _++_, map, append-assoc}
+use lib.Dec.{ltb}
+use lib.ListN.{length, take, drop, set, length-map}
+use Rattle.std.proofs.shelf.Lists.{take-at, drop-at, set-at, drop-more, length-take-le, length-push}
+use Rattle.std.proofs.shelf.Tests.{lt-ltb, le-ltb}
+use Rattle.walk.specs.declared.slot.Slot.{Slot}
+use Rattle.walk.specs.Kinds.{Kind}
+use Rattle.walk.specs.Walks.{failed, full, going, ended, fails, covered, withdraw, store, offer}
+
+either : {A : Type 0} (a b : Bool) (x y : A) → cond a x (cond b x y) ≡ cond (a || b) x y
+either true b x y = refl
+either false b x y = refl
+
+module _ {I : Type 0} (K : Kind I) (n : ℕ) (x : Slot I) (s : List (Slot I)) where
+  -- the item is hopeless or covered
+  abbrev dropped : Bool
+  dropped = K .hopeless (x .item) || covered K s (x .item)
+
+  offer-is : offer K n x s ≡ cond (fails K x) (ended (failed x s)) (cond dropped (going s) (cond (ltb (length s) n) (going (store K x s)) (ended (full s))))
+  unfolding offer
+  offer-is = ap (cond (fails K x) (ended (failed x s))) (either (K .hopeless (x .item)) (covered K s (x .item)) (going s) (cond (ltb (length s) n) (going (store K x s)) (ended (full s))))
+
+  pub offer-failed : fails K x ≡ true → offer K n x s ≡ ended (failed x s)
+  offer-failed a = offer-is ∙ rw a
+
+  pub offer-dropped : fails K x ≡ false → dropped ≡ true → offer K n x s ≡ going s
+  offer-dropped a b = offer-is ∙ rw (a, b)
+
+  pub offer-filled : fails K x ≡ false → dropped ≡ false → n ≤ length s → offer K n x s ≡ ended (full s)
+  offer-filled a b l = let e : ltb (length s) n ≡ false = le-ltb (length s) n l in offer-is ∙ rw (a, b, e)
+
+  pub offer-stored : fails K x ≡ false → dropped ≡ false → length s < n → offer K n x s ≡ going (store K x s)
+  offer-stored a b l = let e : ltb (length s) n ≡ true = lt-ltb (length s) n l in offer-is ∙ rw (a, b, e)
+
+-- the slots as they are when the new one is written after those that withdraw left
+module _ {I : Type 0} (K : Kind I) (x : Slot I) (before : List (Slot I)) (stored : ℕ) (l : stored < length before) where
+  abbrev left : List (Slot I)
+  left = map (withdraw K x) (take stored before)
+
+  left-length : length left ≡ stored
+  left-length = length-map (take stored before) (withdraw K x) ∙ length-take-le stored before (omega arith)
+
+  written : set (left ++ drop stored before) stored x ≡ (left ++ (x ∷ [])) ++ drop (stored + 1) before
+  written =
+      ap (λ (t : List (Slot I)). set (left ++ t) stored x) (drop-more before stored x l)
+      ∙ set-at left _ (drop (stored + 1) before) x stored left-length
+      ∙ sym (append-assoc left (x ∷ []) (drop (stored + 1) before))
+
+  more : length (left ++ (x ∷ [])) ≡ stored + 1
+  more = length-push left x ∙ ap (λ (k : ℕ). k + 1) left-length
+
+  pub stored-take : (after : List (Slot I)) → after ≡ set (left ++ drop stored before) stored x → store K x (take stored before) ≡ take (stored + 1) after
+  unfolding store
+  stored-take after e = sym (ap (take (stored + 1)) (e ∙ written) ∙ take-at (left ++ (x ∷ [])) (drop (stored + 1) before) (stored + 1) more)
+
+  pub stored-drop : (after : List (Slot I)) → after ≡ set (left ++ drop stored before) stored x → drop (stored + 1) after ≡ drop (stored + 1) before
+  stored-drop after e = ap (drop (stored + 1)) (e ∙ written) ∙ drop-at (left ++ (x ∷ [])) (drop (stored + 1) before) (stored + 1) more

@@ -1,0 +1,9 @@
+pub mod Lists
+pub mod Slots
+pub mod Kinds
+pub mod Fans
+pub mod Runs
+pub mod Walks
+pub mod Answers
+pub mod Statements
+pub mod Progress
