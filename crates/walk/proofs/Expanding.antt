@@ -44,13 +44,13 @@ module _ {I : Type 0} (K : Kind I) (n j : ℕ) (item : I) (d : ℕ) where
       ∙ ap (λ (k : ℕ). after (offers K n (map (fresh d j c) (K .successors item c)) s) (λ t. offers K n (offspring K j item d (K .commands - (c + 1)) k) t)) (sym (add-one c))
 
   -- the offers of command c, after those that led from `before` to `slots` with `so` filled
-  module _ (before : List (Slot I)) (stored : ℕ) (whole : Step I) (c so : ℕ) (slots : List (Slot I)) (e : whole ≡ rest c (take so slots)) (d′ : drop so slots ≡ drop so before) (l : stored ≤ so) (b : c < K .commands)
+  module _ (before : List (Slot I)) (stored c so : ℕ) (slots : List (Slot I)) (e : rest 0 (take stored before) ≡ rest c (take so slots)) (d′ : drop so slots ≡ drop so before) (l : stored ≤ so) (b : c < K .commands)
       (fan : List I) (f : K .successors item c ≡ fan) (r : Progress I) (later : List (Slot I)) (o : Reaches (offers K n (map (fresh d j c) fan) (take so slots)) r so n slots later) where
-    on : whole ≡ after (step r later) (λ t. rest (c + 1) t)
+    on : rest 0 (take stored before) ≡ after (step r later) (λ t. rest (c + 1) t)
     on = e ∙ rest-more c (take so slots) b ∙ ap (λ (q : List I). after (offers K n (map (fresh d j c) q) (take so slots)) (λ t. rest (c + 1) t)) f ∙ ap (λ (q : Step I). after q (λ t. rest (c + 1) t)) (o .is)
 
     -- the walk is over
-    pub expand-ends : ((y : ℕ) → r ≡ Going y → ⊥) → Reaches whole r stored n before later
+    pub expand-ends : ((y : ℕ) → r ≡ Going y → ⊥) → Reaches (rest 0 (take stored before)) r stored n before later
     expand-ends h = record {
       is = on ∙ after-over (step r later) _ (over r later h);
       beyond = o .beyond ∙ drop-further slots before so (filled r) (o .low) d′;
@@ -59,7 +59,7 @@ module _ {I : Type 0} (K : Kind I) (n j : ℕ) (item : I) (d : ℕ) where
     }
 
     -- it goes on
-    pub expand-on : (m : ℕ) → r ≡ Going m → (whole ≡ rest (c + 1) (take m later)) × (drop m later ≡ drop m before) × (stored ≤ m) × (m ≤ n)
+    pub expand-on : (m : ℕ) → r ≡ Going m → (rest 0 (take stored before) ≡ rest (c + 1) (take m later)) × (drop m later ≡ drop m before) × (stored ≤ m) × (m ≤ n)
     expand-on m q =
         let k = o .low in
         let z : filled r ≡ m = ap filled q in

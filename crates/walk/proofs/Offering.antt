@@ -37,26 +37,27 @@ module _ {I : Type 0} (K : Kind I) (n : ℕ) (x : Slot I) (s : List (Slot I)) wh
   pub offer-stored : fails K x ≡ false → dropped ≡ false → length s < n → offer K n x s ≡ going (store K x s)
   offer-stored a b l = let e : ltb (length s) n ≡ true = lt-ltb (length s) n l in offer-is ∙ rw (a, b, e)
 
--- the slots as they are when the new one is written after those that withdraw left
-module _ {I : Type 0} (K : Kind I) (x : Slot I) (before : List (Slot I)) (stored : ℕ) (l : stored < length before) where
+-- the slots when the new one is written behind those that withdrawing left
+module _ {I : Type 0} (K : Kind I) (x : Slot I) (before : List (Slot I)) (stored : ℕ) (l : stored < length before) (mid : List (Slot I)) (e : mid ≡ map (withdraw K x) (take stored before) ++ drop stored before) where
   abbrev left : List (Slot I)
   left = map (withdraw K x) (take stored before)
 
   left-length : length left ≡ stored
   left-length = length-map (take stored before) (withdraw K x) ∙ length-take-le stored before (omega arith)
 
-  written : set (left ++ drop stored before) stored x ≡ (left ++ (x ∷ [])) ++ drop (stored + 1) before
+  written : set mid stored x ≡ (left ++ (x ∷ [])) ++ drop (stored + 1) before
   written =
-      ap (λ (t : List (Slot I)). set (left ++ t) stored x) (drop-more before stored x l)
+      ap (λ (t : List (Slot I)). set t stored x) e
+      ∙ ap (λ (t : List (Slot I)). set (left ++ t) stored x) (drop-more before stored x l)
       ∙ set-at left _ (drop (stored + 1) before) x stored left-length
       ∙ sym (append-assoc left (x ∷ []) (drop (stored + 1) before))
 
   more : length (left ++ (x ∷ [])) ≡ stored + 1
   more = length-push left x ∙ ap (λ (k : ℕ). k + 1) left-length
 
-  pub stored-take : (after : List (Slot I)) → after ≡ set (left ++ drop stored before) stored x → store K x (take stored before) ≡ take (stored + 1) after
+  pub stored-take : store K x (take stored before) ≡ take (stored + 1) (set mid stored x)
   unfolding store
-  stored-take after e = sym (ap (take (stored + 1)) (e ∙ written) ∙ take-at (left ++ (x ∷ [])) (drop (stored + 1) before) (stored + 1) more)
+  stored-take = sym (ap (take (stored + 1)) written ∙ take-at (left ++ (x ∷ [])) (drop (stored + 1) before) (stored + 1) more)
 
-  pub stored-drop : (after : List (Slot I)) → after ≡ set (left ++ drop stored before) stored x → drop (stored + 1) after ≡ drop (stored + 1) before
-  stored-drop after e = ap (drop (stored + 1)) (e ∙ written) ∙ drop-at (left ++ (x ∷ [])) (drop (stored + 1) before) (stored + 1) more
+  pub stored-drop : drop (stored + 1) (set mid stored x) ≡ drop (stored + 1) before
+  stored-drop = ap (drop (stored + 1)) written ∙ drop-at (left ++ (x ∷ [])) (drop (stored + 1) before) (stored + 1) more

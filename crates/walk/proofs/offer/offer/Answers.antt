@@ -1,11 +1,9 @@
 use native.Mathlib.Omega.{arith}
 use Prim.Native.Nat.{_≤_, _<_}
 use mathlib.Core.Path.{_≡_, refl, sym, ap, _∙_}
-use mathlib.Core.List.{List}
-use lib.ListN.{length, take, set}
+use lib.ListN.{length, take}
 use Rattle.std.proofs.shelf.Lists.{length-take-le}
 use Rattle.walk.specs.Walks.{going}
-use Rattle.walk.specs.declared.slot.Slot.{Slot}
 use Rattle.walk.proofs.Offering.{offer-failed, offer-dropped, offer-filled, offer-stored, stored-take, stored-drop}
 use Rattle.walk.proofs.offer.offer.Needs as need
 
@@ -38,12 +36,9 @@ pub returns : need.returns
 returns g c =
     let e : c .args .stored ≤ length (c .args .slots .now) = omega arith in
     let l : c .args .stored < length (c .args .slots .now) = omega arith in
-    let w = ap (λ (t : List (Slot (g .S·Item .Denot))). set t (c .args .stored) (c .args .new)) (c .withdraw .ensures) in
     record {
-      is = offer-stored (g .S·Search .kind (c .args .search .now)) (c .args .usable) (c .args .new) (take (c .args .stored) (c .args .slots .now)) (sym (c .fails .ensures) ∙ c .if-fails .left) (sym (c .dropped .ensures) ∙ c .if-dropped .left)
-          (omega (arith, length-take-le (c .args .stored) (c .args .slots .now) e))
-          ∙ ap (λ (t : List (Slot (g .S·Item .Denot))). going t) (stored-take (g .S·Search .kind (c .args .search .now)) (c .args .new) (c .args .slots .now) (c .args .stored) l _ w);
-      beyond = stored-drop (g .S·Search .kind (c .args .search .now)) (c .args .new) (c .args .slots .now) (c .args .stored) l _ w;
-      low = omega arith;
-      high = omega arith;
-    }
+  is = offer-stored (g .S·Search .kind (c .args .search .now)) (c .args .usable) (c .args .new) (take (c .args .stored) (c .args .slots .now)) (sym (c .fails .ensures) ∙ c .if-fails .left) (sym (c .dropped .ensures) ∙ c .if-dropped .left)
+    (omega (arith, length-take-le (c .args .stored) (c .args .slots .now) e))
+    ∙ ap going (stored-take (g .S·Search .kind (c .args .search .now)) (c .args .new) (c .args .slots .now) (c .args .stored) l (c .withdraw .last .slots) (c .withdraw .ensures));
+  beyond = stored-drop (g .S·Search .kind (c .args .search .now)) (c .args .new) (c .args .slots .now) (c .args .stored) l (c .withdraw .last .slots) (c .withdraw .ensures);
+  low = omega arith; high = omega arith }
