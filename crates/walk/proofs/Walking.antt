@@ -12,7 +12,7 @@ use Rattle.walk.specs.declared.offer.Progress.{Progress}
 use Rattle.walk.specs.declared.offer.Progress.the-variants.{Going, Ended}
 use Rattle.std.specs.declared.option.Option.the-variants.{Some, None}
 use Rattle.walk.specs.Kinds.{Kind}
-use Rattle.walk.specs.Walks.{passed, Step, going, ended, Pick, nothing, taking, finally, pick, offers, turns, walk}
+use Rattle.walk.specs.Walks.{passed, Step, Pick, nothing, taking, finally, pick, offers, turns, walk}
 use Rattle.walk.specs.Progress.{outcome, filled-at, depth-at, filled, step, chosen, marked, Reaches, Ends}
 use Rattle.walk.proofs.Marks.{Picks, Picked, picked, waitings, picks-waitings, picks-length}
 use Rattle.walk.proofs.Turns.{first, next, enough-offers}
