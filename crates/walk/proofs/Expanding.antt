@@ -2,7 +2,7 @@
 use Prim.Native.Nat.{ℕ, zero, suc, _+_, _-_, _≤_, _<_}
 use native.Mathlib.Omega.{arith}
 use native.Mathlib.Numerals.{add-one}
-use mathlib.Core.Path.{_≡_, refl, sym, ap, _∙_}
+use mathlib.Core.Path.{_≡_, refl, sym, ap, subst, _∙_}
 use mathlib.Core.List.{List, [], _++_, map}
 use lib.ListN.{take, drop}
 use Rattle.walk.specs.declared.slot.Slot.{Slot}
@@ -31,7 +31,7 @@ module _ {I : Type 0} (K : Kind I) (n j : ℕ) (item : I) (d : ℕ) where
   pub rest : ℕ → List (Slot I) → Step I
   rest c s = offers K n (offspring K j item d (K .commands - c) c) s
 
-  pub rest-none : (c : ℕ) (s : List (Slot I)) → K .commands ≤ c → rest c s ≡ going s
+  rest-none : (c : ℕ) (s : List (Slot I)) → K .commands ≤ c → rest c s ≡ going s
   unfolding rest offspring
   rest-none c s l = let e : K .commands - c ≡ 0 = omega arith in rw e (offers-nil K n s)
 
@@ -44,13 +44,13 @@ module _ {I : Type 0} (K : Kind I) (n j : ℕ) (item : I) (d : ℕ) where
       ∙ ap (λ (k : ℕ). after (offers K n (map (fresh d j c) (K .successors item c)) s) (λ t. offers K n (offspring K j item d (K .commands - (c + 1)) k) t)) (sym (add-one c))
 
   -- the offers of command c, after those that led from `before` to `slots` with `so` filled
-  module _ (before : List (Slot I)) (stored : ℕ) (whole : Step I) (c so : ℕ) (slots : List (Slot I)) (e : whole ≡ rest c (take so slots)) (d′ : drop so slots ≡ drop so before) (l : stored ≤ so) (b : c < K .commands)
+  module _ (before : List (Slot I)) (stored c so : ℕ) (slots : List (Slot I)) (e : rest 0 (take stored before) ≡ rest c (take so slots)) (d′ : drop so slots ≡ drop so before) (l : stored ≤ so) (b : c < K .commands)
       (fan : List I) (f : K .successors item c ≡ fan) (r : Progress I) (later : List (Slot I)) (o : Reaches (offers K n (map (fresh d j c) fan) (take so slots)) r so n slots later) where
-    on : whole ≡ after (step r later) (λ t. rest (c + 1) t)
+    on : rest 0 (take stored before) ≡ after (step r later) (λ t. rest (c + 1) t)
     on = e ∙ rest-more c (take so slots) b ∙ ap (λ (q : List I). after (offers K n (map (fresh d j c) q) (take so slots)) (λ t. rest (c + 1) t)) f ∙ ap (λ (q : Step I). after q (λ t. rest (c + 1) t)) (o .is)
 
     -- the walk is over
-    pub expand-ends : ((y : ℕ) → r ≡ Going y → ⊥) → Reaches whole r stored n before later
+    expand-ends : ((y : ℕ) → r ≡ Going y → ⊥) → Reaches (rest 0 (take stored before)) r stored n before later
     expand-ends h = record {
       is = on ∙ after-over (step r later) _ (over r later h);
       beyond = o .beyond ∙ drop-further slots before so (filled r) (o .low) d′;
@@ -59,7 +59,7 @@ module _ {I : Type 0} (K : Kind I) (n j : ℕ) (item : I) (d : ℕ) where
     }
 
     -- it goes on
-    pub expand-on : (m : ℕ) → r ≡ Going m → (whole ≡ rest (c + 1) (take m later)) × (drop m later ≡ drop m before) × (stored ≤ m) × (m ≤ n)
+    expand-on : (m : ℕ) → r ≡ Going m → (rest 0 (take stored before) ≡ rest (c + 1) (take m later)) × (drop m later ≡ drop m before) × (stored ≤ m) × (m ≤ n)
     expand-on m q =
         let k = o .low in
         let z : filled r ≡ m = ap filled q in
@@ -70,9 +70,31 @@ module _ {I : Type 0} (K : Kind I) (n j : ℕ) (item : I) (d : ℕ) where
           omega arith,
         )
 
-pub rest-all : {I : Type 0} (K : Kind I) (n j : ℕ) (x : Slot I) (s : List (Slot I)) → offers K n (children K j x (K .commands) 0) s ≡ rest K n j (x .item) (x .depth + 1) 0 s
-unfolding rest
-rest-all K n j x s =
-    let e : K .commands - 0 ≡ K .commands = omega arith in
-    let f : x .depth + 1 ≡ suc (x .depth) = omega arith in
-    rw (e, f) (ap (λ t. offers K n t s) (children-is K j x (K .commands) 0))
+-- so far, the offers of the commands below c have led to `slots` with `so` filled
+pub record Sofar {I : Type 0} (K : Kind I) (n j : ℕ) (item : I) (d : ℕ) (before : List (Slot I)) (stored c so : ℕ) (slots : List (Slot I)) : Type 0 where
+  pub left : rest K n j item d 0 (take stored before) ≡ rest K n j item d c (take so slots)
+  pub beyond : drop so slots ≡ drop so before
+  pub low : stored ≤ so
+  pub high : so ≤ n
+
+-- the successors of slot j, which is x
+module _ {I : Type 0} (K : Kind I) (n j : ℕ) (x : Slot I) (before : List (Slot I)) (stored : ℕ) where
+  rest-all : offers K n (children K j x (K .commands) 0) (take stored before) ≡ rest K n j (x .item) (x .depth + 1) 0 (take stored before)
+  unfolding rest
+  rest-all =
+      let e : K .commands - 0 ≡ K .commands = omega arith in
+      let f : x .depth + 1 ≡ suc (x .depth) = omega arith in
+      rw (e, f) (ap (λ t. offers K n t (take stored before)) (children-is K j x (K .commands) 0))
+
+  pub sofar-none : stored ≤ n → Sofar K n j (x .item) (x .depth + 1) before stored 0 stored before
+  sofar-none l = record { left = refl; beyond = refl; low = omega arith; high = l }
+
+  pub sofar-all : (c so : ℕ) (slots : List (Slot I)) → Sofar K n j (x .item) (x .depth + 1) before stored c so slots → K .commands ≤ c → Reaches (offers K n (children K j x (K .commands) 0) (take stored before)) (Going so) stored n before slots
+  sofar-all c so slots h l = record { is = rest-all ∙ h .left ∙ rest-none K n j (x .item) (x .depth + 1) c (take so slots) l; beyond = h .beyond; low = h .low; high = h .high }
+
+  module _ (c so : ℕ) (slots : List (Slot I)) (h : Sofar K n j (x .item) (x .depth + 1) before stored c so slots) (b : c < K .commands) (fan : List I) (f : K .successors (x .item) c ≡ fan) (later : List (Slot I)) where
+    pub sofar-more : (m : ℕ) → Reaches (offers K n (map (fresh (x .depth + 1) j c) fan) (take so slots)) (Going m) so n slots later → Sofar K n j (x .item) (x .depth + 1) before stored (c + 1) m later
+    sofar-more m o = let e = expand-on K n j (x .item) (x .depth + 1) before stored c so slots (h .left) (h .beyond) (h .low) b fan f (Going m) later o m refl in record { left = e .0; beyond = e .1; low = e .2; high = e .3 }
+
+    pub sofar-over : (r : Progress I) → ((y : ℕ) → r ≡ Going y → ⊥) → Reaches (offers K n (map (fresh (x .depth + 1) j c) fan) (take so slots)) r so n slots later → Reaches (offers K n (children K j x (K .commands) 0) (take stored before)) r stored n before later
+    sofar-over r e o = subst (λ (w : Step I). Reaches w r stored n before later) (sym rest-all) (expand-ends K n j (x .item) (x .depth + 1) before stored c so slots (h .left) (h .beyond) (h .low) b fan f r later o e)

@@ -1,5 +1,5 @@
 -- What the program answers and leaves when the walk has ended, and what that says.
-use Prim.Native.Nat.{ℕ, _+_, _≤_, _<_}
+use Prim.Native.Nat.{ℕ, _+_, _≤_}
 use native.Mathlib.Omega.{arith}
 use mathlib.Core.Path.{_≡_, refl, sym, ap, subst, _∙_}
 use mathlib.Core.Bool.{false}
@@ -16,7 +16,7 @@ use Rattle.walk.specs.Runs.{run-to}
 use Rattle.walk.specs.Walks.{Outcome, passed, failed, full, walk}
 use Rattle.walk.specs.Answers.{verdict, run, stored, answer, Leaves}
 use Rattle.walk.specs.Statements.{Says, NotFull, Exhausted, Coded, Tells}
-use Rattle.walk.specs.Progress.{outcome, filled-at, Ends}
+use Rattle.walk.specs.Progress.{outcome, Ends}
 use Rattle.walk.proofs.Trails.{run-length}
 use Rattle.walk.proofs.Turns.{persistent, exhaustive}
 use Rattle.walk.proofs.Sound.{sound}

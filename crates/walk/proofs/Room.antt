@@ -16,7 +16,7 @@ use Rattle.walk.specs.Answers.{stored}
 use Rattle.walk.specs.Statements.{NotFull, Coded, Irredundant, Sufficient}
 use Rattle.walk.proofs.Lists.{all-map, all-both, all-list, all-any}
 use Rattle.walk.proofs.Marks.{Picks, here, there, picks-in, picks-all, picks-any, all-store, any-store, new-store, withdraw-all, offer-cases}
-use Rattle.walk.proofs.Turns.{Left, first, next, children-all, walk-ind}
+use Rattle.walk.proofs.Turns.{Left, next, children-all, walk-ind}
 use Rattle.walk.proofs.Counting.{distinct-push, pigeon}
 
 module _ {I : Type 0} (K : Kind I) (Fit : I → Type 0) (Misses : I → List ℕ → Type 0) (F : Facts K Fit Misses) (through : Transitive K Fit) where

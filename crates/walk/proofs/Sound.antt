@@ -2,7 +2,7 @@
 use Prim.Native.Nat.{ℕ, zero, suc, _+_, _≤_, _<_}
 use native.Mathlib.Omega.{arith}
 use mathlib.Core.Path.{_≡_, refl, sym, ap, subst, _∙_}
-use mathlib.Core.Bool.{Bool, true, false, cond, _&&_, _||_, true≢false, false≢true}
+use mathlib.Core.Bool.{true, false, _&&_, true≢false, false≢true}
 use mathlib.Core.List.{List, [], _∷_, _++_, map}
 use mathlib.Core.Logic.{_⊎_, inl, inr}
 use lib.ListN.{length}
@@ -10,12 +10,12 @@ use Rattle.std.proofs.shelf.Tests.{and-parts, or-cases, cases-lt, cases-eq}
 use Rattle.walk.specs.declared.slot.Mark.the-variants.{Waiting}
 use Rattle.walk.specs.declared.slot.Slot.{Slot}
 use Rattle.walk.specs.Lists.{All, Any}
-use Rattle.walk.specs.Slots.{waits, live, fresh, start, parent-of, command-of}
+use Rattle.walk.specs.Slots.{waits, live, fresh, start}
 use Rattle.walk.specs.Kinds.{Kind, Facts, Missed}
 use Rattle.walk.specs.Runs.{run-of}
-use Rattle.walk.specs.Walks.{passed, failed, fails, covered, store, offer, children, walk}
+use Rattle.walk.specs.Walks.{passed, failed, covered, store, offer, children, walk}
 use Rattle.walk.specs.Statements.{Says, Sound}
-use Rattle.walk.proofs.Lists.{At, all-map, all-both, all-append, all-list, all-any, any-map, any-left, any-right, any-list, at-all, members}
+use Rattle.walk.proofs.Lists.{At, all-map, all-both, all-list, all-any, any-map, any-left, any-right, any-list, at-all, members}
 use Rattle.walk.proofs.Marks.{done, live-cases, Sorted, Grows, at-grows, Picks, picks-waits, picks-in, picks-all, picks-any, picks-at, picks-grows, picks-first, picks-sorted, new-store, grows-store, all-store, any-store, sorted-store, offer-cases, fails-hit}
 use Rattle.walk.proofs.Turns.{Left, first, next, children-all, walk-ind}
 use Rattle.walk.proofs.Trails.{trail, trail-whole, run-length}
@@ -247,14 +247,14 @@ module _ {I : Type 0} (K : Kind I) (Fit : I → Type 0) (Misses : I → List ℕ
           due : (i : I) → Fit i → ((w : List ℕ) → Misses i w → Missed K Misses w) → Due [] 0 (start i)
           due i f m = record { fit = f; deep = refl; waits = refl; rooted = m }
 
-          begin : Inv [] 0 (map (start) (K .starts))
+          begin : Inv [] 0 (first K)
           begin = record {
             good = tt;
             rooted = tt;
             closed = tt;
             sorted = tt;
-            due = all-list (Due [] 0) (start) (λ k h. h) (K .starts) (all-both due (K .starts) (F .starts-fit) (members (λ (w : List ℕ) (k : I). Misses k w) (K .starts)));
-            begun = λ w m. inr (omega arith, any-list (Lacks w) (start) (λ k q. q) (K .starts) m);
+            due = all-list (Due [] 0) start (λ k h. h) (K .starts) (all-both due (K .starts) (F .starts-fit) (members (λ (w : List ℕ) (k : I). Misses k w) (K .starts)));
+            begun = λ w m. inr (omega arith, any-list (Lacks w) start (λ k q. q) (K .starts) m);
           }
 
 -- the theorem

@@ -12,7 +12,7 @@ use Rattle.walk.specs.declared.offer.Progress.{Progress}
 use Rattle.walk.specs.declared.offer.Progress.the-variants.{Going, Ended}
 use Rattle.std.specs.declared.option.Option.the-variants.{Some, None}
 use Rattle.walk.specs.Kinds.{Kind}
-use Rattle.walk.specs.Walks.{passed, Step, going, ended, Pick, nothing, taking, finally, pick, offers, turns, walk}
+use Rattle.walk.specs.Walks.{passed, Step, Pick, nothing, taking, finally, pick, offers, turns, walk}
 use Rattle.walk.specs.Progress.{outcome, filled-at, depth-at, filled, step, chosen, marked, Reaches, Ends}
 use Rattle.walk.proofs.Marks.{Picks, Picked, picked, waitings, picks-waitings, picks-length}
 use Rattle.walk.proofs.Turns.{first, next, enough-offers}
@@ -60,7 +60,7 @@ module _ {I : Type 0} (K : Kind I) (n : ℕ) where
   spends pend s m (Ended w) later l e = omega arith
 
   -- after the starts are offered
-  pub started : (r : Progress I) (before later : List (Slot I)) → Reaches (offers K n (first K) (take 0 before)) r 0 n before later → filled r ≤ length later → Where r later
+  started : (r : Progress I) (before later : List (Slot I)) → Reaches (offers K n (first K) (take 0 before)) r 0 n before later → filled r ≤ length later → Where r later
   started r before later o l = arrives (first K) [] (begins K n) (deep-offers K n 0 (first K) [] (deep-first K) (omega arith) tt) r later l (o .is)
 
   -- a turn, from slots that are taken from before; the taken slot is no deeper than its number
@@ -122,6 +122,9 @@ module _ {I : Type 0} (K : Kind I) (n : ℕ) where
     pub beyond : drop (filled r) slots ≡ drop (filled r) slots₁
     pub low : filled r₁ ≤ filled r
     pub high : filled r ≤ n
+
+  pub keeps-first : (r : Progress I) (before slots : List (Slot I)) → Reaches (offers K n (first K) (take 0 before)) r 0 n before slots → n ≤ length slots → Keeps r slots r slots
+  keeps-first r before slots o l = let h = o .high in record { standing = started r before slots o (omega arith); beyond = refl; low = omega arith; high = h }
 
   -- the walk has ended
   pub over-ends : (r : Progress I) (slots : List (Slot I)) (r₁ : Progress I) (slots₁ slots₀ : List (Slot I)) → Keeps r slots r₁ slots₁ → drop (filled r₁) slots₁ ≡ drop (filled r₁) slots₀ → (e : Ending I) → r ≡ Ended e → Ends (walk K n) e n slots₀ slots

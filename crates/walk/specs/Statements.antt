@@ -8,7 +8,7 @@ use Rattle.walk.specs.Lists.{All, Distinct}
 use Rattle.walk.specs.Slots.{waits, items}
 use Rattle.walk.specs.Kinds.{Kind, Facts, Transitive, Missed}
 use Rattle.walk.specs.Walks.{Outcome, passed, failed, full, walk}
-use Rattle.walk.specs.Answers.{usable, verdict, run, stored, Leaves}
+use Rattle.walk.specs.Answers.{usable, run, stored, Leaves}
 use Rattle.walk.specs.declared.slot.Slot.{Slot}
 use Rattle.std.specs.declared.option.Option.{Option}
 use Rattle.std.specs.declared.option.Option.the-variants.{Some, None}

@@ -1,7 +1,7 @@
 ghost use mathlib.Core.Path.{_≡_};
 ghost use mathlib.Core.Bool.{_||_};
 ghost use mathlib.Core.List.{_++_, map};
-ghost use Prim.Native.Nat.{ℕ, _+_, _*_, _/_, _%_, _^_, _<_, _≤_};
+ghost use Prim.Native.Nat.{_<_, _≤_};
 ghost use lib.ListN.{length, take, drop};
 ghost use Rattle.walk.specs.Fans.{has as hasHead, fan};
 ghost use Rattle.walk.specs.Walks.{fails as failsOf, covered as coveredOf, yields as yieldsOf, withdraw as withdrawOf, offer as offerOf, offers as offersOf, children};

@@ -1,6 +1,6 @@
 ghost use mathlib.Core.Path.{_≡_};
 ghost use mathlib.Core.List.{_++_};
-ghost use Prim.Native.Nat.{ℕ, min, _<_, _≤_};
+ghost use Prim.Native.Nat.{min, _≤_};
 ghost use lib.ListN.{length, take, drop};
 ghost use Rattle.walk.specs.Kinds.{Facts, Transitive};
 ghost use Rattle.walk.specs.Walks.{pick, walk as walkOf};

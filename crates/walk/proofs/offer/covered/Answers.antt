@@ -1,8 +1,5 @@
-use borrow.Author.Needs.{needs}
-use native.Mathlib.Omega.{arith}
-use mathlib.Core.Path.{_≡_, refl, sym, _∙_}
-use Prim.Native.Nat.{_≤_}
-use lib.ListN.{length, take}
+use mathlib.Core.Path.{sym, _∙_}
+use lib.ListN.{take}
 use Rattle.std.proofs.shelf.Lists.{length-take-le}
 use Rattle.walk.proofs.Covering.{covered-end, first-yes, first-dead, first-no}
 use Rattle.walk.proofs.offer.covered.Needs.{else-live·by·then-live·else-covers, else-live·by·else-live}

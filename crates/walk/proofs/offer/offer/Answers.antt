@@ -1,49 +1,16 @@
 use native.Mathlib.Omega.{arith}
-use Prim.Native.Nat.{_≤_, _<_}
-use mathlib.Core.Path.{_≡_, refl, sym, ap, _∙_}
-use mathlib.Core.List.{List}
-use lib.ListN.{length, take, set}
-use Rattle.std.proofs.shelf.Lists.{length-take-le}
-use Rattle.walk.specs.Walks.{going}
-use Rattle.walk.specs.declared.slot.Slot.{Slot}
-use Rattle.walk.proofs.Offering.{offer-failed, offer-dropped, offer-filled, offer-stored, stored-take, stored-drop}
+use mathlib.Core.Path.{sym, _∙_}
+use Rattle.walk.proofs.Offering.{reaches-failed, reaches-dropped, reaches-full, reaches-stored}
 use Rattle.walk.proofs.offer.offer.Needs as need
 
 pub returns-then-fails : need.returns-then-fails
-returns-then-fails g c = record {
-  is = offer-failed (g .S·Search .kind (c .args .search .now)) (c .args .usable) (c .args .new) (take (c .args .stored) (c .args .slots .now)) (sym (c .if-fails .ensures tt));
-  beyond = refl;
-  low = omega arith;
-  high = omega arith;
-}
+returns-then-fails g c = reaches-failed (g .S·Search .kind (c .args .search .now)) (c .args .usable) (c .args .new) (c .args .slots .now) (c .args .stored) (omega arith) (omega arith) (sym (c .if-fails .ensures tt))
 
 pub returns-then-dropped : need.returns-then-dropped
-returns-then-dropped g c = record {
-  is = offer-dropped (g .S·Search .kind (c .args .search .now)) (c .args .usable) (c .args .new) (take (c .args .stored) (c .args .slots .now)) (sym (c .fails .ensures) ∙ c .if-fails .left) (sym (c .if-dropped .ensures tt));
-  beyond = refl;
-  low = omega arith;
-  high = omega arith;
-}
+returns-then-dropped g c = reaches-dropped (g .S·Search .kind (c .args .search .now)) (c .args .usable) (c .args .new) (c .args .slots .now) (c .args .stored) (omega arith) (omega arith) (sym (c .fails .ensures) ∙ c .if-fails .left) (sym (c .if-dropped .ensures tt))
 
 pub returns-then-stored-usable : need.returns-then-stored-usable
-returns-then-stored-usable g c = record {
-  is = offer-filled (g .S·Search .kind (c .args .search .now)) (c .args .usable) (c .args .new) (take (c .args .stored) (c .args .slots .now)) (sym (c .fails .ensures) ∙ c .if-fails .left) (sym (c .dropped .ensures) ∙ c .if-dropped .left)
-      (let e : c .args .stored ≤ length (c .args .slots .now) = omega arith in omega (arith, length-take-le (c .args .stored) (c .args .slots .now) e));
-  beyond = refl;
-  low = omega arith;
-  high = omega arith;
-}
+returns-then-stored-usable g c = reaches-full (g .S·Search .kind (c .args .search .now)) (c .args .usable) (c .args .new) (c .args .slots .now) (c .args .stored) (omega arith) (omega arith) (sym (c .fails .ensures) ∙ c .if-fails .left) (sym (c .dropped .ensures) ∙ c .if-dropped .left) (c .if-stored-usable .taken)
 
 pub returns : need.returns
-returns g c =
-    let e : c .args .stored ≤ length (c .args .slots .now) = omega arith in
-    let l : c .args .stored < length (c .args .slots .now) = omega arith in
-    let w = ap (λ (t : List (Slot (g .S·Item .Denot))). set t (c .args .stored) (c .args .new)) (c .withdraw .ensures) in
-    record {
-      is = offer-stored (g .S·Search .kind (c .args .search .now)) (c .args .usable) (c .args .new) (take (c .args .stored) (c .args .slots .now)) (sym (c .fails .ensures) ∙ c .if-fails .left) (sym (c .dropped .ensures) ∙ c .if-dropped .left)
-          (omega (arith, length-take-le (c .args .stored) (c .args .slots .now) e))
-          ∙ ap (λ (t : List (Slot (g .S·Item .Denot))). going t) (stored-take (g .S·Search .kind (c .args .search .now)) (c .args .new) (c .args .slots .now) (c .args .stored) l _ w);
-      beyond = stored-drop (g .S·Search .kind (c .args .search .now)) (c .args .new) (c .args .slots .now) (c .args .stored) l _ w;
-      low = omega arith;
-      high = omega arith;
-    }
+returns g c = reaches-stored (g .S·Search .kind (c .args .search .now)) (c .args .usable) (c .args .new) (c .args .slots .now) (c .args .stored) (omega arith) (omega arith) (sym (c .fails .ensures) ∙ c .if-fails .left) (sym (c .dropped .ensures) ∙ c .if-dropped .left) (omega arith) (c .withdraw .last .slots) (c .withdraw .ensures)

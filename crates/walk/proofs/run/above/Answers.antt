@@ -1,4 +1,3 @@
-use borrow.Author.Needs.{needs}
 use native.Mathlib.Omega.{arith}
 use Rattle.walk.proofs.Trails.{read-above, read-past}
 use Rattle.walk.proofs.run.above.Needs as need

@@ -1,5 +1,5 @@
 use native.Mathlib.Omega.{arith}
-use mathlib.Core.Path.{_≡_, refl, sym, _∙_}
+use mathlib.Core.Path.{refl, sym, _∙_}
 use lib.ListN.{take, drop}
 use Rattle.walk.proofs.Trails.{trail-is, trail-down, trail-none}
 use Rattle.walk.proofs.run.trace.Needs as need

@@ -1,25 +1,19 @@
 use native.Mathlib.Omega.{arith}
-use Prim.Native.Nat.{_<_}
-use mathlib.Core.Path.{refl, sym, subst}
+use mathlib.Core.Path.{sym, subst}
 use mathlib.Core.List.{List, map}
 use lib.ListN.{take}
 use Rattle.walk.specs.Slots.{start}
 use Rattle.walk.specs.Walks.{offers}
 use Rattle.walk.specs.Progress.{Reaches}
-use Rattle.walk.proofs.Walking.{started, over-ends, turn-ends, turn-bounds, turn-keeps, turn-less}
+use Rattle.walk.proofs.Walking.{keeps-first, over-ends, turn-ends, turn-bounds, turn-keeps, turn-less}
 use Rattle.walk.proofs.walk.settle.Needs as need
 
 pub loop-progress-holds : need.loop-progress-holds
 loop-progress-holds g c =
     let h = c .offer-fan-progress .ensures .high in
-    record {
-      standing = started (g .S·Search .kind (c .args .search .now)) (c .args .usable) (c .offer-fan-progress .result) (c .args .slots .now) (c .offer-fan-progress .last .slots)
-          (subst (λ (l : List (g .S·Item .Denot)). Reaches (offers (g .S·Search .kind (c .args .search .now)) (c .args .usable) (map start l) (take 0 (c .args .slots .now))) (c .offer-fan-progress .result) 0 (c .args .usable) (c .args .slots .now) (c .offer-fan-progress .last .slots)) (sym (c .starts-heads .ensures)) (c .offer-fan-progress .ensures))
-          (omega arith);
-      beyond = refl;
-      low = omega arith;
-      high = h;
-    }
+    keeps-first (g .S·Search .kind (c .args .search .now)) (c .args .usable) (c .offer-fan-progress .result) (c .args .slots .now) (c .offer-fan-progress .last .slots)
+    (subst (λ (l : List (g .S·Item .Denot)). Reaches (offers (g .S·Search .kind (c .args .search .now)) (c .args .usable) (map start l) (take 0 (c .args .slots .now))) (c .offer-fan-progress .result) 0 (c .args .usable) (c .args .slots .now) (c .offer-fan-progress .last .slots)) (sym (c .starts-heads .ensures)) (c .offer-fan-progress .ensures))
+    (omega arith)
 
 pub returns-in-rest : need.returns-in-rest
 returns-in-rest g c =

@@ -1,6 +1,4 @@
-use borrow.Author.Needs.{needs}
-use native.Mathlib.Omega.{arith}
-use mathlib.Core.Path.{_≡_, refl, sym, ap, _∙_}
+use mathlib.Core.Path.{sym}
 use Rattle.walk.proofs.Picking.{found, found-none}
 use Rattle.walk.proofs.walk.take_lowest.Needs as need
 
