@@ -15,6 +15,13 @@ use Rattle.walk.specs.Kinds.{Kind}
 use Rattle.walk.specs.Walks.{failed, full, going, ended, fails, covered, withdraw, store, offer}
 use Rattle.walk.specs.Progress.{Reaches}
 
+-- a test that stops at the first yes
+pub or-first : (a b r : Bool) → r ≡ true → r ≡ a → r ≡ (a || b)
+or-first a b r e q = let z : a ≡ true = sym q ∙ e in e ∙ rw z
+
+pub or-second : (a b r : Bool) → a ≡ false → r ≡ b → r ≡ (a || b)
+or-second a b r e q = rw e q
+
 either : {A : Type 0} (a b : Bool) (x y : A) → cond a x (cond b x y) ≡ cond (a || b) x y
 either true b x y = refl
 either false b x y = refl

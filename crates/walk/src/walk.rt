@@ -71,10 +71,12 @@ fn usable(len: usize) -> usize
 /// answer, the slots and the run buffer are what the definition of the walk gives, whatever the kind; slots that the
 /// walk did not fill and bytes behind the run are as before.
 ///
-/// Where the kind has the facts of a search: passed means that no start misses any run; failed means that a start
-/// misses the run in the buffer, and that no start misses a shorter one. Unless full, more slots give the same
-/// answer, slots and run. Where covering is transitive too, no item is stored twice, so the answer is never full once
-/// there are as many usable slots as fit items. Whatever the kind, no stored item waits after passed.
+/// Whatever the kind, more slots give the same answer, slots and run unless it is full, and after passed no stored
+/// item waits.
+///
+/// Where the kind has the facts of a search, passed means that no start misses any run, and failed means that a start
+/// misses the run in the buffer and no start misses a shorter one. Where covering is transitive too, no item is stored
+/// twice, so the answer is never full once there are as many usable slots as fit items.
 pub fn walk<S: Search>(
     search: &S,
     slots: &mut [Slot<S::Item>],
