@@ -1,5 +1,6 @@
 //! Examples of plans, plan files, orders, statements and the guard, run as tests. They stand in a crate of their own, so that proving them
 //! does not prove the crates that they try a second time.
+#![tactic(auto)]
 
 #[cfg(test)]
 mod drawing;

@@ -1,6 +1,7 @@
 //! Works a script of statements through and prints an answer line for each: from the file that its one argument names,
 //! or else from standard input. `console compare PROGRAMME RULE [ORDER] [SLOTS]` compares two plan files in one go, and
 //! `console draw PLAN` prints one for a picture.
+#![tactic(auto)]
 
 ghost use Rattle.std.specs.Prelude.{◌<◌, length};
 

@@ -2,6 +2,7 @@
 //!
 //! `guard` has the guard and its calls, `replay` works a list of calls through. What the calls mean and what is promised
 //! of them stands in the crate `calls`; `specs/Meanings.antt` says how the values of the code are read as theirs.
+#![tactic(auto)]
 
 pub mod call;
 mod drawing;

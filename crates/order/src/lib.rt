@@ -2,6 +2,7 @@
 //! that an order has to keep.
 //!
 //! In a comparison, state `s` of the programme is number `s`, and state `s` of the rule is number `32 + s`.
+#![tactic(auto)]
 
 pub mod delivered;
 pub mod greatest;

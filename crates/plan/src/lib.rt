@@ -1,4 +1,5 @@
 //! Plans: what every plan answers, the plan that is drawn, and the plan that is read from a file.
+#![tactic(auto)]
 
 pub mod drawing;
 pub mod file;

@@ -1,4 +1,5 @@
 //! The statements of a script, read from the words of a line. All text is bytes, so that no input is an error of encoding.
+#![tactic(auto)]
 
 mod arguments;
 pub mod hex;

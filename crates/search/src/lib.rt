@@ -3,6 +3,7 @@
 //!
 //! What the items of each are stands in `specs/Pairs.antt` and `specs/StateSets.antt`, and what the searches find in
 //! `specs/Findings.antt` and `specs/Searching.antt`.
+#![tactic(auto)]
 
 pub mod cases;
 pub mod compare;

@@ -1,5 +1,6 @@
 //! Pseudo-random plans, compared and opened under every kind of order, and held against a checker by complete
 //! determinisation. It prints what it counted, and each difference as it comes.
+#![tactic(auto)]
 
 mod answer;
 mod buffers;
