@@ -10,9 +10,9 @@ pub loop-at-preserved : goal.loop-at-preserved
 loop-at-preserved c =
     let f : List ℕ = c.args.bytes.now in
     let at : ℕ = c.loop-at.at in
-    let size : ℕ = c.piece-size-size.result in
+    let size : ℕ = c.piece_size-size.result in
     let t = take_rest f at in
-    let e = c.piece-size-size.ensures in
+    let e = c.piece_size-size.ensures in
     let es : size ≡ length (piece (drop at f)) = subst (λ (r : List ℕ). size ≡ length (piece r)) t e.0 in
     let fit : size ≤ length (drop at f) = subst (λ (r : List ℕ). size ≤ length r) t e.1 in
     let m = c.mark-set.ensures in (

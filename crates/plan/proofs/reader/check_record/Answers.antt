@@ -51,7 +51,7 @@ returns-then-not-ascends c = (
       (c.if-len-size.false ∙ c.size.ensures)
       (sym c.misplaced.ensures ∙ c.if-misplaced.false)
       (ap (inside c.args.count (kind c.args.rest.now) 0) (sym (tail_body c.args.rest.now c.if-rest-len.false))
-      ∙ sym c.in-range.ensures ∙ c.if-not-in-range.false)
+      ∙ sym c.in_range.ensures ∙ c.if-not-in_range.false)
       (ap (lexb c.args.before.now) (sym (rest_order c.args.rest.now)) ∙ sym c.ascends.ensures ∙ c.if-not-ascends.true),
 )
 
@@ -68,12 +68,12 @@ returns-in-len4-up c =
           e
           (sym c.misplaced.ensures ∙ c.if-misplaced.false)
           (ap (inside c.args.count (kind c.args.rest.now) 0) (sym (tail_body c.args.rest.now c.if-rest-len.false))
-          ∙ sym c.in-range.ensures ∙ c.if-not-in-range.false)
+          ∙ sym c.in_range.ensures ∙ c.if-not-in_range.false)
           (ap (lexb c.args.before.now) (sym (rest_order c.args.rest.now)) ∙ sym c.ascends.ensures ∙ c.if-not-ascends.false),
     )
 
 pub returns : goal.returns
 returns c =
     let short : length c.args.rest.now < 4 = omega (arith, ltb-true) in
-    let h = c.check-short.ensures short in
+    let h = c.check_short.ensures short in
     (h.0, h.1 c.args.count c.args.before.now)

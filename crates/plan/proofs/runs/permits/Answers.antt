@@ -24,5 +24,5 @@ returns g c =
     let d =
     permits_decided A c.count.ensures.proper c.args.run.now c.loop-command.reached c.ends.result
     (sym (led_all A c.loop-command.reached c.args.run.now c.loop-command.command-index c.loop-command-test.false) ∙ c.loop-command.invariant)
-    c.ends.ensures c.ends.type-inv in
+    c.ends.ensures c.ends.type_inv in
     record { only = d.0; every = d.1 }

@@ -2,7 +2,7 @@ use Rattle.std.proofs.Common.{◌≡◌, ℕ, ◌+◌, ◌/◌, ◌%◌, ◌<◌
 use Rattle.plan.proofs.table_plan.all_targets.Goals as goal
 
 pub loop-k-init : goal.loop-k-init
-loop-k-init g c = (c.no-arrows-arrows.ensures.len, λ j h. absurd (omega arith), λ j h. c.no-arrows-arrows.ensures.zero j)
+loop-k-init g c = (c.no_arrows-arrows.ensures.len, λ j h. absurd (omega arith), λ j h. c.no_arrows-arrows.ensures.zero j)
 
 pub loop-k-preserved : goal.loop-k-preserved
 loop-k-preserved g c =

@@ -9,9 +9,9 @@ loop-s-init c = (put_arrows_start (drawn c.args.table.now) c.args.buffer.now c.a
 
 pub loop-s-preserved : goal.loop-s-preserved
 loop-s-preserved c = (
-  put_each c.args.buffer.now c.loop-s.buffer c.put-arrows-from-end.new.buffer c.args.at c.loop-s.end c.put-arrows-from-end.result c.loop-s.s
-      (λ (s : ℕ). arrows_from (drawn c.args.table.now) s) c.loop-s.auto.buffer c.loop-s.invariant.0 c.put-arrows-from-end.ensures.0,
-  omega (arith, c.put-arrows-from-end.ensures.1),
+  put_each c.args.buffer.now c.loop-s.buffer c.put_arrows_from-end.new.buffer c.args.at c.loop-s.end c.put_arrows_from-end.result c.loop-s.s
+      (λ (s : ℕ). arrows_from (drawn c.args.table.now) s) c.loop-s.auto.buffer c.loop-s.invariant.0 c.put_arrows_from-end.ensures.0,
+  omega (arith, c.put_arrows_from-end.ensures.1),
 )
 
 pub returns : goal.returns

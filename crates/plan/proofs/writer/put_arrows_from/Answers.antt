@@ -15,9 +15,9 @@ loop-c-preserved c =
     let A = drawn c.args.table.now in
     let s = c.args.s in
     let d = c.loop-c.c in (
-      put_each c.args.buffer.now c.loop-c.buffer c.put-members-end.new.buffer c.args.at c.loop-c.end c.put-members-end.result d
+      put_each c.args.buffer.now c.loop-c.buffer c.put_members-end.new.buffer c.args.at c.loop-c.end c.put_members-end.result d
           (λ (i : ℕ). arrows_under A s i) c.loop-c.auto.buffer c.loop-c.invariant.0
-          (subst (λ (x : ℕ). Put c.loop-c.buffer c.put-members-end.new.buffer c.loop-c.end (joined (each A.count (λ (t : ℕ). when (has x t) (arrow_record s d t)))) c.put-members-end.result)
-          c.targets.ensures c.put-members-end.ensures.0),
-      omega (arith, c.put-members-end.ensures.1),
+          (subst (λ (x : ℕ). Put c.loop-c.buffer c.put_members-end.new.buffer c.loop-c.end (joined (each A.count (λ (t : ℕ). when (has x t) (arrow_record s d t)))) c.put_members-end.result)
+          c.targets.ensures c.put_members-end.ensures.0),
+      omega (arith, c.put_members-end.ensures.1),
     )

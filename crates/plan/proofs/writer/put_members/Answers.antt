@@ -9,8 +9,8 @@ loop-k-init c = (put_start c.args.buffer.now c.args.at (λ (j : ℕ). when (has 
 
 pub loop-k-preserved : goal.loop-k-preserved
 loop-k-preserved c = (
-  put_each c.args.buffer.now c.loop-k.buffer c.put-member-end.new.buffer c.args.at c.loop-k.end c.put-member-end.result c.loop-k.k
+  put_each c.args.buffer.now c.loop-k.buffer c.put_member-end.new.buffer c.args.at c.loop-k.end c.put_member-end.result c.loop-k.k
       (λ (j : ℕ). when (has c.args.set j) (c.args.prefix.now ++ (j ∷ [])))
-      c.loop-k.auto.buffer c.loop-k.invariant.0 c.put-member-end.ensures.0,
-  omega (arith, c.put-member-end.ensures.1),
+      c.loop-k.auto.buffer c.loop-k.invariant.0 c.put_member-end.ensures.0,
+  omega (arith, c.put_member-end.ensures.1),
 )

@@ -11,7 +11,7 @@ returns-then-not-is-digit c =
 
 pub loop-b-preserved : goal.loop-b-preserved
 loop-b-preserved c =
-    ap (λ (b : Bool). b && hex_digits (drop (c.loop-b.b-index + 1) c.args.word.now)) c.if-not-is-digit.ensures
+    ap (λ (b : Bool). b && hex_digits (drop (c.loop-b.b-index + 1) c.args.word.now)) c.if-not-is_digit.ensures
     ∙ sym (digits_more c.args.word.now c.loop-b.b-index c.loop-b-test.true) ∙ c.loop-b.invariant
 
 pub returns : goal.returns

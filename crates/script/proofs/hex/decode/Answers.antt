@@ -8,7 +8,7 @@ pub loop-i-preserved : goal.loop-i-preserved
 loop-i-preserved c =
     let rest : List ℕ = unhexed (drop (c.loop-i.i + 2) c.args.word.now) in (
       omega arith,
-      ap (λ (l : List ℕ). l ++ rest) c.in-ok-push.ensures.items
+      ap (λ (l : List ℕ). l ++ rest) c.in_ok-push.ensures.items
           ∙ append_assoc (vec_items c.loop-i.bytes) _ rest
           ∙ ap (λ (x : ℕ). vec_items c.loop-i.bytes ++ (x ∷ rest)) (ap₂ (λ (a b : ℕ). 16 * a + b) c.value.ensures.is c.value-in-loop-i.ensures.is)
           ∙ ap (λ (l : List ℕ). vec_items c.loop-i.bytes ++ l) (sym (unhexed_more c.args.word.now c.loop-i.i (omega arith)))

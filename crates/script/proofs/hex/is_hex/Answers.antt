@@ -9,7 +9,7 @@ returns-then-word-eq1 c = sym (hex_single c.args.word.now c.if-word-eq1.true)
 
 pub returns-then-word-eq0 : goal.returns-then-word-eq0
 returns-then-word-eq0 c =
-    c.all-digits.ensures
+    c.all_digits.ensures
     ∙ ap (λ (b : Bool). b && hex_digits c.args.word.now) (sym (eq-eqb _ _ c.if-word-eq0.true))
     ∙ sym (hex_other c.args.word.now c.if-word-eq1.false)
 

@@ -13,8 +13,8 @@ returns-then-not-is-digit c =
 pub returns-then-d-most : goal.returns-then-d-most
 returns-then-d-most c =
     sym (number_past (c.args.most + 1) (10 * c.loop-b.n + (get_or c.args.word.now c.loop-b.b-index 0 - 48)) (drop (c.loop-b.b-index + 1) c.args.word.now) past)
-    ∙ sym (ap (below (c.args.most + 1)) (number_digit c.loop-b.n c.args.word.now c.loop-b.b-index c.loop-b-test.true (sym c.if-not-is-digit.ensures)))
-    ∙ decimal_left (c.args.most + 1) c.loop-b.n c.loop-b.b-index c.args.word.now c.if-is-empty.ensures c.loop-b.invariant.1
+    ∙ sym (ap (below (c.args.most + 1)) (number_digit c.loop-b.n c.args.word.now c.loop-b.b-index c.loop-b-test.true (sym c.if-not-is_digit.ensures)))
+    ∙ decimal_left (c.args.most + 1) c.loop-b.n c.loop-b.b-index c.args.word.now c.if-is_empty.ensures c.loop-b.invariant.1
   where
     past : c.args.most + 1 ≤ 10 * c.loop-b.n + (get_or c.args.word.now c.loop-b.b-index 0 - 48)
     past = elim c.then-d-most.branch [
@@ -25,11 +25,11 @@ returns-then-d-most c =
 pub loop-b-preserved : goal.loop-b-preserved
 loop-b-preserved c = (
   omega arith,
-  sym (ap (below (c.args.most + 1)) (number_digit c.loop-b.n c.args.word.now c.loop-b.b-index c.loop-b-test.true (sym c.if-not-is-digit.ensures))) ∙ c.loop-b.invariant.1,
+  sym (ap (below (c.args.most + 1)) (number_digit c.loop-b.n c.args.word.now c.loop-b.b-index c.loop-b-test.true (sym c.if-not-is_digit.ensures))) ∙ c.loop-b.invariant.1,
 )
 
 pub returns : goal.returns
 returns c =
     sym (below_some (c.args.most + 1) c.loop-b.n (omega (arith, c.loop-b.invariant.0)))
     ∙ ap (below (c.args.most + 1)) (sym (at_drop_all (number_behind c.loop-b.n) c.args.word.now c.loop-b.b-index c.loop-b-test.false))
-    ∙ decimal_left (c.args.most + 1) c.loop-b.n c.loop-b.b-index c.args.word.now c.if-is-empty.ensures c.loop-b.invariant.1
+    ∙ decimal_left (c.args.most + 1) c.loop-b.n c.loop-b.b-index c.args.word.now c.if-is_empty.ensures c.loop-b.invariant.1

@@ -10,8 +10,8 @@ use Rattle.script.proofs.pairs.pair_bytes.Goals as goal
 
 pub loop-word-init : goal.loop-word-init
 loop-word-init c = (
-  c.no-pairs-bytes.ensures.len,
-  λ p r hp hr. ap (λ (x : ℕ). has x (r % 8) || listed (words c.args.text.now) p r) (c.no-pairs-bytes.ensures.zero (p * 8 + r / 8))
+  c.no_pairs-bytes.ensures.len,
+  λ p r hp hr. ap (λ (x : ℕ). has x (r % 8) || listed (words c.args.text.now) p r) (c.no_pairs-bytes.ensures.zero (p * 8 + r / 8))
       ∙ ap (λ (b : Bool). b || listed (words c.args.text.now) p r) (has_zero (r % 8)),
 )
 
@@ -19,7 +19,7 @@ pub loop-word-preserved : goal.loop-word-preserved
 loop-word-preserved c = (
   c.loop-word.invariant.0,
   mark_other c.loop-word.bytes c.loop-word.left.now c.args.text.now c.in-Some.word.now c.in-Some.rest.now c.loop-word.invariant.1
-      c.in-Some.ensures.0 (sym c.in-default-pair.ensures.value),
+      c.in-Some.ensures.0 (sym c.in_default-pair.ensures.value),
 )
 
 pub loop-word-preserved-in-Some-pair : goal.loop-word-preserved-in-Some-pair
@@ -36,4 +36,4 @@ loop-word-preserved-in-Some-pair c =
     )
 
 pub returns : goal.returns
-returns c = record { len = c.loop-word.invariant.0; pairs = marked_all c.loop-word.bytes c.loop-word.left.now c.args.text.now c.loop-word.invariant.1 c.in-default.ensures }
+returns c = record { len = c.loop-word.invariant.0; pairs = marked_all c.loop-word.bytes c.loop-word.left.now c.args.text.now c.loop-word.invariant.1 c.in_default.ensures }

@@ -4,7 +4,7 @@ use Rattle.script.proofs.words.blanks.Goals as goal
 
 pub loop-i-preserved : goal.loop-i-preserved
 loop-i-preserved c =
-    sym (words_blank c.args.line.now c.loop-i.i c.loop-i-test.true (sym c.is-blank.ensures ∙ c.if-not-is-blank.false))
+    sym (words_blank c.args.line.now c.loop-i.i c.loop-i-test.true (sym c.is_blank.ensures ∙ c.if-not-is_blank.false))
     ∙ c.loop-i.invariant
 
 pub returns-then-not-is-blank : goal.returns-then-not-is-blank

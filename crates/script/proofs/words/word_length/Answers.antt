@@ -6,7 +6,7 @@ use Rattle.script.proofs.words.word_length.Goals as goal
 
 pub loop-i-preserved : goal.loop-i-preserved
 loop-i-preserved c =
-    sym (behind_letter c.args.line.now c.loop-i.i c.loop-i-test.true (sym c.is-blank.ensures ∙ c.if-is-blank.false))
+    sym (behind_letter c.args.line.now c.loop-i.i c.loop-i-test.true (sym c.is_blank.ensures ∙ c.if-is_blank.false))
     ∙ c.loop-i.invariant
 
 pub returns-then-is-blank : goal.returns-then-is-blank

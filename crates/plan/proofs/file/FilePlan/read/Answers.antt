@@ -27,8 +27,8 @@ loop-at-preserved c =
       read_more f c.loop-at.at c.loop-at.before.now c.loop-at-test.true c.loop-at.invariant.1 c.in-Ok.size
           (subst (λ (r : List ℕ). c.in-Ok.size ≡ length (piece r)) t e.0)
           e.2
-          (subst (λ (n : ℕ). NoneHolds (causes n c.loop-at.before.now (piece (drop c.loop-at.at f)))) c.count-of-count.ensures
-          (subst (λ (r : List ℕ). NoneHolds (causes c.count-of-count.result c.loop-at.before.now (piece r))) t e.3)),
+          (subst (λ (n : ℕ). NoneHolds (causes n c.loop-at.before.now (piece (drop c.loop-at.at f)))) c.count_of-count.ensures
+          (subst (λ (r : List ℕ). NoneHolds (causes c.count_of-count.result c.loop-at.before.now (piece r))) t e.3)),
     )
 
 pub returns-in-Err : goal.returns-in-Err
@@ -37,8 +37,8 @@ returns-in-Err c =
     let e = c.in-Err.ensures in
     refused_as f c.in-Err.fault c.loop-at.at e.0
     (inr (read_fault f c.loop-at.at c.loop-at.before.now c.loop-at-test.true c.loop-at.invariant.1 (number_of c.in-Err.fault)
-    (subst (λ (n : ℕ). FirstHolds (number_of c.in-Err.fault) (causes n c.loop-at.before.now (piece (drop c.loop-at.at f)))) c.count-of-count.ensures
-    (subst (λ (r : List ℕ). FirstHolds (number_of c.in-Err.fault) (causes c.count-of-count.result c.loop-at.before.now (piece r))) (take_rest f c.loop-at.at) e.1))))
+    (subst (λ (n : ℕ). FirstHolds (number_of c.in-Err.fault) (causes n c.loop-at.before.now (piece (drop c.loop-at.at f)))) c.count_of-count.ensures
+    (subst (λ (r : List ℕ). FirstHolds (number_of c.in-Err.fault) (causes c.count_of-count.result c.loop-at.before.now (piece r))) (take_rest f c.loop-at.at) e.1))))
 
 positive : (n : ℕ) → (n ≡ 0 → ⊥) → 0 < n
 positive n h = grind arith
@@ -46,5 +46,5 @@ positive n h = grind arith
 pub returns : goal.returns
 returns c =
     let f = c.args.bytes.now in
-    read_as f (positive (length f) (eqb-false (length f) 0 (sym c.if-is-empty.ensures)))
+    read_as f (positive (length f) (eqb-false (length f) 0 (sym c.if-is_empty.ensures)))
     (read_all f c.loop-at.at c.loop-at.before.now c.loop-at-test.false c.loop-at.invariant.1)

@@ -12,15 +12,15 @@ use Rattle.plan.proofs.table.Table.draw_arrow.Goals as goal
 pub returns : goal.returns
 returns c =
     let t = c.args.self.now in
-    let k = c.in-ok-place.place in
-    let h = c.in-ok-place.ensures in
+    let k = c.in_ok-place.place in
+    let h = c.in_ok-place.ensures in
     let e = c.with.ensures.added (omega (arith, h, c.args.self.now.few)) in
     let drew : tabled t.count t.starts t.ends (set t.arrows k c.with.result) ≡ with_arrow c.args.from c.args.command c.args.to (drawn t) =
     changed_at (λ (x : ℕ). along x c.args.to) t.count t.starts t.ends t.arrows k c.args.from c.args.command c.with.result
     h.4 (omega (arith, h, c.args.self.now.few)) h.2 e in
     record {
       answer = (h.0, drew);
-      no-run-lost = subst (λ (A : Nfa). Included (drawn t) A) (sym drew) (arrow_included c.args.from c.args.command c.args.to (drawn t));
+      no_run_lost = subst (λ (A : Nfa). Included (drawn t) A) (sym drew) (arrow_included c.args.from c.args.command c.args.to (drawn t));
     }
 
 pub invariant-of-self : goal.invariant-of-self

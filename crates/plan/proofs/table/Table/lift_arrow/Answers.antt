@@ -12,15 +12,15 @@ use Rattle.plan.proofs.table.Table.lift_arrow.Goals as goal
 pub returns : goal.returns
 returns c =
     let t = c.args.self.now in
-    let k = c.in-ok-place.place in
-    let h = c.in-ok-place.ensures in
+    let k = c.in_ok-place.place in
+    let h = c.in_ok-place.ensures in
     let e = c.without.ensures.taken (omega (arith, h, c.args.self.now.few)) in
     let drew : tabled t.count t.starts t.ends (set t.arrows k c.without.result) ≡ without_arrow c.args.from c.args.command c.args.to (drawn t) =
     changed_at (λ (x : ℕ). without x c.args.to) t.count t.starts t.ends t.arrows k c.args.from c.args.command c.without.result
     h.4 (omega (arith, h, c.args.self.now.few)) h.2 e in
     record {
       answer = (h.0, drew);
-      no-run-gained = subst (λ (A : Nfa). Included A (drawn t)) (sym drew) (lift_included c.args.from c.args.command c.args.to (drawn t));
+      no_run_gained = subst (λ (A : Nfa). Included A (drawn t)) (sym drew) (lift_included c.args.from c.args.command c.args.to (drawn t));
     }
 
 pub invariant-of-self : goal.invariant-of-self

@@ -12,7 +12,7 @@ returns c =
     let t = c.args.self.now in
     let e = c.with-self.ensures.added (omega (arith, c.args.self.now.few)) in
     let drew : tabled t.count c.with-self.result t.ends t.arrows ≡ with_start c.args.state (drawn t) = ap (λ (x : ℕ). tabled t.count x t.ends t.arrows) e in
-    record { answer = (search rules, drew); no-run-lost = subst (λ (A : Nfa). Included (drawn t) A) (sym drew) (start_included c.args.state (drawn t)) }
+    record { answer = (search rules, drew); no_run_lost = subst (λ (A : Nfa). Included (drawn t) A) (sym drew) (start_included c.args.state (drawn t)) }
 
 pub invariant-of-self : goal.invariant-of-self
 invariant-of-self c =

@@ -7,5 +7,5 @@ use Rattle.plan.proofs.table.Table.new.Goals as goal
 
 pub returns : goal.returns
 returns c =
-    let e = empty _ c.no-arrows.ensures.zero in
-    record { meaning = e; no-runs = λ w p. blank_permits_none w (subst (λ (A : Nfa). Permits A w) e p) }
+    let e = empty _ c.no_arrows.ensures.zero in
+    record { meaning = e; no_runs = λ w p. blank_permits_none w (subst (λ (A : Nfa). Permits A w) e p) }
