@@ -2,7 +2,7 @@ ghost use Rattle.std.specs.Prelude.{◌≡◌, ◌≤◌, ◌++◌, length, take
 ghost use Rattle.walk.specs.Kinds.{Facts, Transitive};
 ghost use Rattle.walk.specs.Walks.{pick, walk as walk_of};
 ghost use Rattle.walk.specs.Progress.{chosen as chosen_of, marked as marked_of, Ends};
-ghost use Rattle.walk.specs.Answers.{usable_of, usable as usable_of, Walked};
+ghost use Rattle.walk.specs.Answers.{usable_of, usable as usable_slots, Walked};
 ghost use Rattle.walk.specs.Statements.{Means, SameWithMore, NeverFull, NoItemTwice, NoneWaits};
 
 use crate::offer::{Ending, Progress, expand, offer_fan};
@@ -78,7 +78,7 @@ pub fn walk<S: Search>(
     ensures leaves { let s = search.now in Walked (S.Search.kind s) result slots.old slots.new run.old run.new }
     ensures means { let s = search.now in (Facts (S.Search.kind s) (S.Search.fit s) (S.Search.misses s) → Means (S.Search.kind s) (S.Search.misses s) result run.new) }
     ensures more_slots_same_answer { let s = search.now in SameWithMore (S.Search.kind s) result slots.old slots.new run.old run.new }
-    ensures never_full { let s = search.now in (Facts (S.Search.kind s) (S.Search.fit s) (S.Search.misses s) → Transitive (S.Search.kind s) (S.Search.fit s) → NeverFull (S.Search.fit s) result (usable_of slots.old)) }
+    ensures never_full { let s = search.now in (Facts (S.Search.kind s) (S.Search.fit s) (S.Search.misses s) → Transitive (S.Search.kind s) (S.Search.fit s) → NeverFull (S.Search.fit s) result (usable_slots slots.old)) }
     ensures no_item_twice { let s = search.now in (Facts (S.Search.kind s) (S.Search.fit s) (S.Search.misses s) → Transitive (S.Search.kind s) (S.Search.fit s) → NoItemTwice result slots.new) }
     ensures passed_none_waits { NoneWaits result slots.new }
 {

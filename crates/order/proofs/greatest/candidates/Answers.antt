@@ -7,11 +7,11 @@ use Rattle.automata.proofs.Ranked.{candidate_none}
 use Rattle.order.proofs.greatest.candidates.Goals as goal
 
 pub loop-p-init : goal.loop-p-init
-loop-p-init c = rows_start _ c.empty-rows-rows.result c.empty-rows-rows.ensures.size c.empty-rows-rows.ensures.zeros
+loop-p-init c = rows_start _ c.empty_rows-rows.result c.empty_rows-rows.ensures.size c.empty_rows-rows.ensures.zeros
 
 pub loop-p-preserved : goal.loop-p-preserved
 loop-p-preserved c =
-    rows_step (candidate (has c.args.states) c.args.ends) c.loop-p.rows c.loop-p.p c.candidates-of.result c.loop-p.invariant c.loop-p-test.true c.candidates-of.ensures
+    rows_step (candidate (has c.args.states) c.args.ends) c.loop-p.rows c.loop-p.p c.candidates_of.result c.loop-p.invariant c.loop-p-test.true c.candidates_of.ensures
 
 pub returns : goal.returns
 returns c = record {

@@ -12,7 +12,7 @@ loop-waiting-init c =
 pub loop-waiting-smaller : goal.loop-waiting-smaller
 loop-waiting-smaller c =
     rank_less (total c.loop-waiting.rows) (total c.settle-changed.new.rows) c.loop-waiting.waiting c.without.result c.settle-changed.result
-    c.settle-changed.ensures.less (c.without.ensures.less c.highest-t.ensures.there) c.without.type-inv c.settle-changed.type-inv
+    c.settle-changed.ensures.less (c.without.ensures.less c.highest-t.ensures.there) c.without.type_inv c.settle-changed.type_inv
 
 pub loop-waiting-preserved : goal.loop-waiting-preserved
 loop-waiting-preserved c =

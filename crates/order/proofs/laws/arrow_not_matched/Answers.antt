@@ -6,11 +6,11 @@ use Rattle.automata.proofs.Matched.{breaks_within, matched_clear, keeps_arrows}
 use Rattle.order.proofs.Answered.{none_cases}
 use Rattle.order.proofs.laws.arrow_not_matched.Goals as goal
 
-pub loop-r-preserved-then-not-is-lost : goal.loop-r-preserved-then-not-is-lost
-loop-r-preserved-then-not-is-lost c = (
+pub loop-r-preserved-then-not-is_lost : goal.loop-r-preserved-then-not-is_lost
+loop-r-preserved-then-not-is_lost c = (
   below_more _ _ c.loop-r.invariant.0
       (λ d t b.
-      let x = unless_lost (bits c.args.rows.now c.law.p c.loop-r.r) (bits c.matched-left.result c.law.p c.loop-r.r) (sym c.is-lost.ensures ∙ c.if-not-is-lost.true) b.0 in
+      let x = unless_lost (bits c.args.rows.now c.law.p c.loop-r.r) (bits c.matched-left.result c.law.p c.loop-r.r) (sym c.is_lost.ensures ∙ c.if-not-is_lost.true) b.0 in
       matched_clear c.args.targets.now c.args.rows.now c.told-targets (λ k. c.fits-targets k) c.told-rows (λ k. c.fits-rows k) 0
       c.sources-sources.result (c.sources-sources.ensures 0) c.law.p c.loop-r.r ((c.matched-left.ensures c.law.p c.loop-r.r).0 x).1 d t b),
   c.loop-r.invariant.1,
@@ -18,7 +18,7 @@ loop-r-preserved-then-not-is-lost c = (
 
 pub loop-target-preserved : goal.loop-target-preserved
 loop-target-preserved c =
-    (below_more _ _ c.loop-target.invariant.0 (λ b. both_ways _ c.if-is-unmatched.false (c.is-unmatched.ensures.1 (b.1, b.2))), c.loop-target.invariant.1)
+    (below_more _ _ c.loop-target.invariant.0 (λ b. both_ways _ c.if-is_unmatched.false (c.is_unmatched.ensures.1 (b.1, b.2))), c.loop-target.invariant.1)
 
 pub loop-command-preserved : goal.loop-command-preserved
 loop-command-preserved c = (
@@ -55,10 +55,10 @@ returns-after-law c =
     let w = breaks_within c.args.targets.now c.args.rows.now c.told-targets (λ k. c.fits-targets k) c.told-rows (λ k. c.fits-rows k) 0 p r d t b in
     c.law.invariant.0 p (omega arith) r d t b))
 
-pub returns-then-is-unmatched : goal.returns-then-is-unmatched
-returns-then-is-unmatched c =
-    let b = c.is-unmatched.ensures.0 c.if-is-unmatched.true in
-    let x = and_parts (bits c.args.rows.now c.law.p c.loop-r.r) (not (bits c.matched-left.result c.law.p c.loop-r.r)) (sym c.is-lost.ensures ∙ c.if-not-is-lost.false) in (
+pub returns-then-is_unmatched : goal.returns-then-is_unmatched
+returns-then-is_unmatched c =
+    let b = c.is_unmatched.ensures.0 c.if-is_unmatched.true in
+    let x = and_parts (bits c.args.rows.now c.law.p c.loop-r.r) (not (bits c.matched-left.result c.law.p c.loop-r.r)) (sym c.is_lost.ensures ∙ c.if-not-is_lost.false) in (
       c.law.p,
       c.loop-r.r,
       c.loop-command.command,

@@ -16,37 +16,37 @@ returns-in-Some c =
       report = ap report_of x.1;
     }
 
-pub returns-in-Some-not-transitive : goal.returns-in-Some-not-transitive
-returns-in-Some-not-transitive c =
-    let x = c.in-Some-not-transitive.ensures in
+pub returns-in-Some-not_transitive : goal.returns-in-Some-not_transitive
+returns-in-Some-not_transitive c =
+    let x = c.in-Some-not_transitive.ensures in
     record {
       offence = not_transitive x.0 x.1 x.2;
       first =
           first_not_transitive (has c.args.states) (listed c.args.ends c.args.targets.now) (bits c.args.rows.now)
-          c.in-default.ensures x.0 x.1 x.2 x.4;
+          c.in_default.ensures x.0 x.1 x.2 x.4;
       report = ap report_of x.3;
     }
 
-pub returns-in-Some-end-not-kept : goal.returns-in-Some-end-not-kept
-returns-in-Some-end-not-kept c =
-    let x = c.in-Some-end-not-kept.ensures in
+pub returns-in-Some-end_not_kept : goal.returns-in-Some-end_not_kept
+returns-in-Some-end_not_kept c =
+    let x = c.in-Some-end_not_kept.ensures in
     record {
       offence = end_not_kept x.0 x.1;
       first =
           first_end_not_kept (has c.args.states) (listed c.args.ends c.args.targets.now) (bits c.args.rows.now)
-          c.in-default.ensures c.in-default-not-transitive.ensures x.0 x.1 x.3;
+          c.in_default.ensures c.in_default-not_transitive.ensures x.0 x.1 x.3;
       report = ap report_of x.2;
     }
 
 pub returns : goal.returns
 returns c =
     cases_map c.arrow_not_matched.result
-    (λ l. record { reflexive = c.in-default.ensures; transitive = c.in-default-not-transitive.ensures; ends = c.in-default-end-not-kept.ensures; arrows = l })
+    (λ l. record { reflexive = c.in_default.ensures; transitive = c.in_default-not_transitive.ensures; ends = c.in_default-end_not_kept.ensures; arrows = l })
     (λ e x. record {
       offence = arrow_not_matched x.0 x.1 x.2 x.3;
       first =
           first_arrow_not_matched (has c.args.states) (listed c.args.ends c.args.targets.now) (bits c.args.rows.now)
-          c.in-default.ensures c.in-default-not-transitive.ensures c.in-default-end-not-kept.ensures x.0 x.1 x.2 x.3 x.5;
+          c.in_default.ensures c.in_default-not_transitive.ensures c.in_default-end_not_kept.ensures x.0 x.1 x.2 x.3 x.5;
       report = ap report_of x.4;
     })
     c.arrow_not_matched.ensures

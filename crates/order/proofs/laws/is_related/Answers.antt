@@ -11,5 +11,5 @@ returns-then-not-contains-2 g c = sym (among_right (has c.args.states) (g.O.Orde
 
 pub returns-else-not-contains-2 : goal.returns-else-not-contains-2
 returns-else-not-contains-2 g c =
-    c.is-below.ensures.answer
+    c.is_below.ensures.answer
     ∙ sym (among_both (has c.args.states) (g.O.Order.below c.args.order.now) c.args.p c.args.r (sym c.if-not-contains.ensures) (sym c.if-not-contains-2.ensures))

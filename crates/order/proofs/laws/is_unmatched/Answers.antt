@@ -5,7 +5,7 @@ use Rattle.order.proofs.laws.is_unmatched.Goals as goal
 
 pub returns-then-contains : goal.returns-then-contains
 returns-then-contains c =
-    let m = c.are-disjoint.ensures in
+    let m = c.are_disjoint.ensures in
     let k = c.requires.1.1.0 in (
       (λ h. (
         row_arrow c.args.targets.now 0 c.args.p c.args.command c.args.target k (sym c.if-contains.ensures),

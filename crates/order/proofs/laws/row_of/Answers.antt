@@ -11,13 +11,13 @@ use Rattle.order.proofs.laws.row_of.Goals.{then-is-related, else-is-related}
 pub loop-r-preserved : goal.loop-r-preserved
 loop-r-preserved g c =
     let f = among (has c.args.states) (g.O.Order.below c.args.order.now) c.args.p in
-    elim c.if-is-related.branch [
+    elim c.if-is_related.branch [
       | then-is-related w ↦
           subst (λ (x : ℕ). RowFilled f (c.loop-r.r + 1) x) (sym w.row-is)
-          (row_yes f c.loop-r.r c.loop-r.row _ c.loop-r.invariant (sym w.if-is-related.ensures) (one_shl c.loop-r.r 64 c.loop-r-test.true))
+          (row_yes f c.loop-r.r c.loop-r.row _ c.loop-r.invariant (sym w.if-is_related.ensures) (one_shl c.loop-r.r 64 c.loop-r-test.true))
       | else-is-related w ↦
           subst (λ (x : ℕ). RowFilled f (c.loop-r.r + 1) x) (sym w.row-is)
-          (row_no f c.loop-r.r c.loop-r.row c.loop-r.invariant (sym w.if-is-related.ensures))
+          (row_no f c.loop-r.r c.loop-r.row c.loop-r.invariant (sym w.if-is_related.ensures))
     ]
 
 pub returns : goal.returns

@@ -7,11 +7,11 @@ use Rattle.automata.proofs.Simulations.{among_left}
 use Rattle.order.proofs.laws.rows_of.Goals as goal
 
 pub loop-p-init : goal.loop-p-init
-loop-p-init g c = rows_start _ c.empty-rows-rows.result c.empty-rows-rows.ensures.size c.empty-rows-rows.ensures.zeros
+loop-p-init g c = rows_start _ c.empty_rows-rows.result c.empty_rows-rows.ensures.size c.empty_rows-rows.ensures.zeros
 
 pub loop-p-preserved : goal.loop-p-preserved
 loop-p-preserved g c =
-    rows_step (among (has c.args.states) (g.O.Order.below c.args.order.now)) c.loop-p.rows c.loop-p.p c.row-of.result c.loop-p.invariant c.loop-p-test.true c.row-of.ensures
+    rows_step (among (has c.args.states) (g.O.Order.below c.args.order.now)) c.loop-p.rows c.loop-p.p c.row_of.result c.loop-p.invariant c.loop-p-test.true c.row_of.ensures
 
 pub returns : goal.returns
 returns g c =

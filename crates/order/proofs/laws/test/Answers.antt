@@ -16,7 +16,7 @@ returns-in-Some g c =
     let x =
     rejected A R o c.in-Some.refusal
     (to_comparison A R c.states-states.ensures.programme c.states-states.ensures.rule c.targets-targets.result c.targets-targets.ensures.size c.targets-targets.ensures.cells
-    c.states-states.result c.ends-ends.result c.states-states.ensures.numbers c.ends-ends.ensures o c.rows-of-rows.result c.rows-of-rows.ensures
+    c.states-states.result c.ends-ends.result c.states-states.ensures.numbers c.ends-ends.ensures o c.rows_of-rows.result c.rows_of-rows.ensures
     (Reports c.in-Some.refusal) c.in-Some.ensures) in
     record {
       laws = x;
@@ -31,5 +31,5 @@ returns-in-None g c =
     let o : ℕ → ℕ → Bool = g.O.Order.below c.args.order.now in
     let l : Lawful A R o =
     to_comparison A R c.states-states.ensures.programme c.states-states.ensures.rule c.targets-targets.result c.targets-targets.ensures.size c.targets-targets.ensures.cells
-    c.states-states.result c.ends-ends.result c.states-states.ensures.numbers c.ends-ends.ensures o c.rows-of-rows.result c.rows-of-rows.ensures Laws c.in-None.ensures in
+    c.states-states.result c.ends-ends.result c.states-states.ensures.numbers c.ends-ends.ensures o c.rows_of-rows.result c.rows_of-rows.ensures Laws c.in-None.ensures in
     record { laws = l; report = tested_lawful A R c.states-states.ensures.programme c.states-states.ensures.rule o l; runs = simulates_runs A R o (laws_simulation _ _ _ l) }

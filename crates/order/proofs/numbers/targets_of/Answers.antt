@@ -6,4 +6,4 @@ returns-then-s-lt32 g c = targets_left _ _ c.targets.result c.args.s c.args.comm
 
 pub returns-else-s-lt32 : goal.returns-else-s-lt32
 returns-else-s-lt32 g c =
-    targets_right _ _ c.targets-else-s-lt32.result c.args.s c.args.command c.targets-else-s-lt32.ensures c.targets-else-s-lt32.type-inv c.if-s-lt32.false
+    targets_right _ _ c.targets-else-s-lt32.result c.args.s c.args.command c.targets-else-s-lt32.ensures c.targets-else-s-lt32.type_inv c.if-s-lt32.false

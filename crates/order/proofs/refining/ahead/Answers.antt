@@ -2,7 +2,7 @@ use Rattle.automata.proofs.Narrowed.{ahead_start, ahead_step, ahead_end}
 use Rattle.order.proofs.refining.ahead.Goals as goal
 
 pub loop-rest-init : goal.loop-rest-init
-loop-rest-init c = ahead_start c.args.sources.now c.no-numbers-able.result c.args.set c.no-numbers-able.ensures.size c.no-numbers-able.ensures.zeros
+loop-rest-init c = ahead_start c.args.sources.now c.no_numbers-able.result c.args.set c.no_numbers-able.ensures.size c.no_numbers-able.ensures.zeros
 
 pub loop-rest-preserved : goal.loop-rest-preserved
 loop-rest-preserved c =

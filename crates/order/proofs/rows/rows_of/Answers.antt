@@ -4,12 +4,12 @@ use Rattle.order.proofs.AsOrder.{rowed_is}
 use Rattle.order.proofs.rows.rows_of.Goals as goal
 
 pub loop-p-init : goal.loop-p-init
-loop-p-init g c = (rows_start _ c.empty-rows-rows.result c.empty-rows-rows.ensures.size c.empty-rows-rows.ensures.zeros, (λ l. absurd (omega arith)))
+loop-p-init g c = (rows_start _ c.empty_rows-rows.result c.empty_rows-rows.ensures.size c.empty_rows-rows.ensures.zeros, (λ l. absurd (omega arith)))
 
 pub loop-p-preserved : goal.loop-p-preserved
 loop-p-preserved g c = (
-  rows_step (g.O.Order.below c.args.order.now) c.loop-p.rows c.loop-p.p c.row-of.result c.loop-p.invariant.0 c.loop-p-test.true c.row-of.ensures.row,
-  (λ _. c.row-of.ensures.small),
+  rows_step (g.O.Order.below c.args.order.now) c.loop-p.rows c.loop-p.p c.row_of.result c.loop-p.invariant.0 c.loop-p-test.true c.row_of.ensures.row,
+  (λ _. c.row_of.ensures.small),
 )
 
 pub returns : goal.returns

@@ -3,7 +3,7 @@ use Rattle.automata.proofs.Transposed.{source_start, source_step, source_end}
 use Rattle.order.proofs.sources.sources.Goals as goal
 
 pub loop-place-init : goal.loop-place-init
-loop-place-init c = source_start c.args.targets.now c.empty-table-table.result c.empty-table-table.ensures.zeros
+loop-place-init c = source_start c.args.targets.now c.empty_table-table.result c.empty_table-table.ensures.zeros
 
 pub loop-place-preserved : goal.loop-place-preserved
 loop-place-preserved c =

@@ -11,8 +11,8 @@ returns-then-eq c =
     mark_found c.args.count c.args.set c.args.prefix.now c.args.row.now c.requires.0 c.requires.1 (omega (arith, ltb-false)) c.if-k-count.true
     ((slice_eq-Decides Decides-eqb _ _ _ c.eq.ensures).0 c.if-eq.true)
 
-pub returns-in-default : goal.returns-in-default
-returns-in-default c =
+pub returns-in_default : goal.returns-in_default
+returns-in_default c =
     (c.requires.1, λ k l. mark_none c.args.set k c.args.prefix.now c.args.row.now (not_empty c.args.prefix.now c.args.row.now k (omega (arith, ltb-true))))
 
 pub returns-else-k-count : goal.returns-else-k-count

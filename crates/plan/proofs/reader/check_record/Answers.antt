@@ -34,14 +34,14 @@ returns-then-misplaced c = (
       (sym c.misplaced.ensures ∙ c.if-misplaced.true),
 )
 
-pub returns-then-not-in-range : goal.returns-then-not-in-range
-returns-then-not-in-range c = (
+pub returns-then-not-in_range : goal.returns-then-not-in_range
+returns-then-not-in_range c = (
   refl,
   first_20 c.args.count c.args.before.now c.args.rest.now c.if-rest-len.false c.if-len-lt2.false c.if-kind-lt1.false c.if-kind-gt4.false
       (c.if-len-size.false ∙ c.size.ensures)
       (sym c.misplaced.ensures ∙ c.if-misplaced.false)
       (ap (inside c.args.count (kind c.args.rest.now) 0) (sym (tail_body c.args.rest.now c.if-rest-len.false))
-      ∙ sym c.in-range.ensures ∙ c.if-not-in-range.true),
+      ∙ sym c.in_range.ensures ∙ c.if-not-in_range.true),
 )
 
 pub returns-then-not-ascends : goal.returns-then-not-ascends

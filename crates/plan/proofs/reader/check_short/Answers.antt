@@ -8,5 +8,5 @@ returns-then-l0-l1 c = λ h. (refl, λ n p. first_18_short n p c.args.rest.now c
 pub returns-else-l0-l1 : goal.returns-else-l0-l1
 returns-else-l0-l1 c = λ h. (refl, λ n p. first_16 n p c.args.rest.now (omega arith))
 
-pub returns-in-default : goal.returns-in-default
-returns-in-default c = λ h. (refl, λ n p. first_16 n p c.args.rest.now (omega (arith, ltb-true)))
+pub returns-in_default : goal.returns-in_default
+returns-in_default c = λ h. (refl, λ n p. first_16 n p c.args.rest.now (omega (arith, ltb-true)))

@@ -5,10 +5,10 @@ use Rattle.script.proofs.Values.{number_digit, number_other, number_past, decima
 use Rattle.script.proofs.numbers.number.Goals as goal
 use Rattle.script.proofs.numbers.number.Goals.{then-d-most-via-then-d-most, then-d-most-via-else-d-most+then-n-most}
 
-pub returns-then-not-is-digit : goal.returns-then-not-is-digit
-returns-then-not-is-digit c =
-    sym (ap (below (c.args.most + 1)) (number_other c.loop-b.n c.args.word.now c.loop-b.b-index c.loop-b-test.true (sym c.if-not-is-digit.ensures)))
-    ∙ decimal_left (c.args.most + 1) c.loop-b.n c.loop-b.b-index c.args.word.now c.if-is-empty.ensures c.loop-b.invariant.1
+pub returns-then-not-is_digit : goal.returns-then-not-is_digit
+returns-then-not-is_digit c =
+    sym (ap (below (c.args.most + 1)) (number_other c.loop-b.n c.args.word.now c.loop-b.b-index c.loop-b-test.true (sym c.if-not-is_digit.ensures)))
+    ∙ decimal_left (c.args.most + 1) c.loop-b.n c.loop-b.b-index c.args.word.now c.if-is_empty.ensures c.loop-b.invariant.1
 
 pub returns-then-d-most : goal.returns-then-d-most
 returns-then-d-most c =

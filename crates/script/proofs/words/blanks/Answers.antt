@@ -7,11 +7,11 @@ loop-i-preserved c =
     sym (words_blank c.args.line.now c.loop-i.i c.loop-i-test.true (sym c.is_blank.ensures ∙ c.if-not-is_blank.false))
     ∙ c.loop-i.invariant
 
-pub returns-then-not-is-blank : goal.returns-then-not-is-blank
-returns-then-not-is-blank c = record {
+pub returns-then-not-is_blank : goal.returns-then-not-is_blank
+returns-then-not-is_blank c = record {
   within = omega arith;
   same = c.loop-i.invariant;
-  stops = λ h. sym c.is-blank.ensures ∙ c.if-not-is-blank.true;
+  stops = λ h. sym c.is_blank.ensures ∙ c.if-not-is_blank.true;
 }
 
 pub returns : goal.returns

@@ -9,9 +9,9 @@ loop-i-preserved c =
     sym (behind_letter c.args.line.now c.loop-i.i c.loop-i-test.true (sym c.is_blank.ensures ∙ c.if-is_blank.false))
     ∙ c.loop-i.invariant
 
-pub returns-then-is-blank : goal.returns-then-is-blank
-returns-then-is-blank c =
-    let here : blank (get_or c.args.line.now c.loop-i.i 0) ≡ true = sym c.if-is-blank.ensures in
+pub returns-then-is_blank : goal.returns-then-is_blank
+returns-then-is_blank c =
+    let here : blank (get_or c.args.line.now c.loop-i.i 0) ≡ true = sym c.if-is_blank.ensures in
     record {
       within = omega arith;
       first = sym c.loop-i.invariant ∙ word_at_blank (take c.loop-i.i c.args.line.now) c.args.line.now c.loop-i.i c.loop-i-test.true here;

@@ -20,15 +20,15 @@ returns-in-Some g c =
     let o : ℕ → ℕ → Bool = g.O.Order.below c.args.order.now in
     let a : ℕ × ℕ × ℕ = c.in-Some.answer in
     let s : List (Slot Pair) = c.args.slots.now in
-    let t : List (Slot Pair) = c.walk-pairs.new.slots in
+    let t : List (Slot Pair) = c.walk_pairs.new.slots in
     let b : List ℕ = c.args.run.now in
-    let v : List ℕ = c.walk-pairs.new.run in
+    let v : List ℕ = c.walk_pairs.new.run in
     let h : Leaves (walk (pairs A R o) (usable s)) a s t b v = c.in-Some.ensures.leaves.1 in
-    let l : Lawful A R o = c.in-default.ensures.laws in
-    let S : Searches (pairs A R o) (Permits A) R (A.count * 2 ^ R.count) (usable s) = every_comparison A R c.walk-pairs.ensures.programme c.walk-pairs.ensures.rule o l (usable s) in
+    let l : Lawful A R o = c.in_default.ensures.laws in
+    let S : Searches (pairs A R o) (Permits A) R (A.count * 2 ^ R.count) (usable s) = every_comparison A R c.walk_pairs.ensures.programme c.walk_pairs.ensures.rule o l (usable s) in
     record {
       leaves = searched (pairs A R o) (compare_refusal A R o (length b) (usable s)) a s t b v
-          (compare_unrefused A R o (length b) (usable s) c.if-is-short.ensures c.in-default.ensures.report) h;
+          (compare_unrefused A R o (length b) (usable s) c.if-is_short.ensures c.in_default.ensures.report) h;
       finds_what_is_so = found (pairs A R o) a s t b v h (Permits A) R (A.count * 2 ^ R.count) S;
       more_slots_same_answer = same_answer (pairs A R o) a s t b v h;
       never_full = never (pairs A R o) a s t b v h (Permits A) R (A.count * 2 ^ R.count) S;

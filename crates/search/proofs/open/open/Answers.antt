@@ -22,17 +22,17 @@ returns-in-Some g c =
     let k : ℕ = c.args.commands in
     let a : ℕ × ℕ × ℕ = c.in-Some.answer in
     let s : List (Slot ℕ) = c.args.slots.now in
-    let t : List (Slot ℕ) = c.walk-sets.new.slots in
+    let t : List (Slot ℕ) = c.walk_sets.new.slots in
     let b : List ℕ = c.args.run.now in
-    let v : List ℕ = c.walk-sets.new.run in
+    let v : List ℕ = c.walk_sets.new.run in
     let h : Leaves (walk (sets R o k) (usable s)) a s t b v = c.in-Some.ensures.leaves.1 in
     let q : drawn c.new.result ≡ blank = c.new.ensures.meaning in
-    let l : Lawful blank R o = subst (λ (N : Nfa). Lawful N R o) q c.in-default.ensures.laws in
-    let e : tested blank R o ≡ none = subst (λ (N : Nfa). tested N R o ≡ none) q c.in-default.ensures.report in
-    let S : Searches (sets R o k) (OfFirst k) R (2 ^ R.count) (usable s) = every_opening R c.walk-sets.ensures.rule o l k (usable s) in
+    let l : Lawful blank R o = subst (λ (N : Nfa). Lawful N R o) q c.in_default.ensures.laws in
+    let e : tested blank R o ≡ none = subst (λ (N : Nfa). tested N R o ≡ none) q c.in_default.ensures.report in
+    let S : Searches (sets R o k) (OfFirst k) R (2 ^ R.count) (usable s) = every_opening R c.walk_sets.ensures.rule o l k (usable s) in
     record {
       leaves = searched (sets R o k) (open_refusal R o k (length b) (usable s)) a s t b v
-          (open_unrefused R o k (length b) (usable s) c.if-is-no-count.ensures c.if-is-short.ensures e) h;
+          (open_unrefused R o k (length b) (usable s) c.if-is_no_count.ensures c.if-is_short.ensures e) h;
       finds_what_is_so = found (sets R o k) a s t b v h (OfFirst k) R (2 ^ R.count) S;
       more_slots_same_answer = same_answer (sets R o k) a s t b v h;
       never_full = never (sets R o k) a s t b v h (OfFirst k) R (2 ^ R.count) S;

@@ -8,14 +8,14 @@ use Rattle.search.proofs.reducing.are_under.Goals as goal
 pub loop-s-init : goal.loop-s-init
 loop-s-init c = every_none _
 
-pub returns-then-not-is-met : goal.returns-then-not-is-met
+pub returns-then-not-is_met : goal.returns-then-not-is_met
 unfolding all_under
-returns-then-not-is-met c =
-    sym (every_not (λ k. not (has c.args.set k) || under (rowed c.args.rows.now) c.args.other (32 + k)) 32 c.loop-s.s (omega arith) (sym c.if-not-is-met.ensures))
+returns-then-not-is_met c =
+    sym (every_not (λ k. not (has c.args.set k) || under (rowed c.args.rows.now) c.args.other (32 + k)) 32 c.loop-s.s (omega arith) (sym c.if-not-is_met.ensures))
 
 pub loop-s-preserved : goal.loop-s-preserved
 loop-s-preserved c =
-    every_next (λ k. not (has c.args.set k) || under (rowed c.args.rows.now) c.args.other (32 + k)) c.loop-s.s c.loop-s.invariant (sym c.if-not-is-met.ensures)
+    every_next (λ k. not (has c.args.set k) || under (rowed c.args.rows.now) c.args.other (32 + k)) c.loop-s.s c.loop-s.invariant (sym c.if-not-is_met.ensures)
 
 pub returns : goal.returns
 unfolding all_under

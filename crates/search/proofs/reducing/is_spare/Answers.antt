@@ -8,7 +8,7 @@ pub returns-then-contains : goal.returns-then-contains
 unfolding spare
 returns-then-contains c =
     both_then _ _ _ (sym c.if-contains.ensures)
-    (c.is-under.ensures ∙ ap (λ (x : ℕ). under (rowed c.args.rows.now) x (32 + c.args.s)) (c.without.ensures.taken c.requires))
+    (c.is_under.ensures ∙ ap (λ (x : ℕ). under (rowed c.args.rows.now) x (32 + c.args.s)) (c.without.ensures.taken c.requires))
 
 pub returns-else-contains : goal.returns-else-contains
 unfolding spare

@@ -11,11 +11,11 @@ loop-s-init c = sym (reduce_none_yet (rowed c.args.rows.now) c.args.set)
 pub loop-s-preserved : goal.loop-s-preserved
 loop-s-preserved c =
     let o = rowed c.args.rows.now in
-    elim c.if-is-spare.branch [
+    elim c.if-is_spare.branch [
       | then-is-spare w ↦
           w.left-is ∙ w.without-left.ensures.taken c.loop-s-test.true
-          ∙ reduce_drops o c.args.set c.loop-s.s c.loop-s.left c.loop-s.invariant (sym w.if-is-spare.ensures)
-      | else-is-spare w ↦ w.left-is ∙ reduce_keeps o c.args.set c.loop-s.s c.loop-s.left c.loop-s.invariant (sym w.if-is-spare.ensures)
+          ∙ reduce_drops o c.args.set c.loop-s.s c.loop-s.left c.loop-s.invariant (sym w.if-is_spare.ensures)
+      | else-is-spare w ↦ w.left-is ∙ reduce_keeps o c.args.set c.loop-s.s c.loop-s.left c.loop-s.invariant (sym w.if-is_spare.ensures)
     ]
 
 pub returns : goal.returns

@@ -13,10 +13,10 @@ loop-head-init g c = (
   omega arith,
 )
 
-pub returns-in-default : goal.returns-in-default
-returns-in-default g c =
+pub returns-in_default : goal.returns-in_default
+returns-in_default g c =
     fan_done (g.S.Search.kind c.args.search.now) c.args.usable c.args.slots.now c.args.stored (has c.args.heads) (g.S.Search.with c.args.search.now c.args.base) (reached_by c.args.origin)
-    (c.loop-head.head + 1) 32 (omega arith) c.offer-progress.result c.offer-progress.new.slots c.in-default.not-Going
+    (c.loop-head.head + 1) 32 (omega arith) c.offer-progress.result c.offer-progress.new.slots c.in_default.not-Going
     (fan_more (g.S.Search.kind c.args.search.now) c.args.usable c.args.slots.now c.args.stored (has c.args.heads) (g.S.Search.with c.args.search.now c.args.base) (reached_by c.args.origin)
     c.loop-head.head c.loop-head.filled c.loop-head.slots c.loop-head.invariant.0 c.loop-head.invariant.1 c.loop-head.invariant.2 (sym c.if-has.ensures) c.waiting-new.result (c.waiting-new.ensures ∙ ap (reached_by c.args.origin) c.put.ensures) c.offer-progress.result c.offer-progress.new.slots c.offer-progress.ensures)
 

@@ -12,8 +12,8 @@ returns-in-Passed g c =
       means = λ F. tells c.args.slots.now c.settle.new.slots (g.S.Search.kind c.args.search.now) (usable c.args.slots.now) (0, 0, c.in-Passed.stored) c.args.run.now c.args.run.now h (g.S.Search.fit c.args.search.now) (g.S.Search.misses c.args.search.now) F;
       more_slots_same_answer = λ f m l. leaves_more c.args.slots.now c.settle.new.slots (g.S.Search.kind c.args.search.now) (usable c.args.slots.now) (0, 0, c.in-Passed.stored) c.args.run.now c.args.run.now h f m l;
       never_full = λ F through code N C l. never c.args.slots.now c.settle.new.slots (g.S.Search.kind c.args.search.now) (usable c.args.slots.now) (0, 0, c.in-Passed.stored) c.args.run.now c.args.run.now h (g.S.Search.fit c.args.search.now) (g.S.Search.misses c.args.search.now) F through code N C l;
-      no-item-twice = λ F through. once c.args.slots.now c.settle.new.slots (g.S.Search.kind c.args.search.now) (usable c.args.slots.now) (0, 0, c.in-Passed.stored) c.args.run.now c.args.run.now h (g.S.Search.fit c.args.search.now) (g.S.Search.misses c.args.search.now) F through;
-      passed-none-waits = λ e. none_waits c.args.slots.now c.settle.new.slots (g.S.Search.kind c.args.search.now) (usable c.args.slots.now) (0, 0, c.in-Passed.stored) c.args.run.now c.args.run.now h e;
+      no_item_twice = λ F through. once c.args.slots.now c.settle.new.slots (g.S.Search.kind c.args.search.now) (usable c.args.slots.now) (0, 0, c.in-Passed.stored) c.args.run.now c.args.run.now h (g.S.Search.fit c.args.search.now) (g.S.Search.misses c.args.search.now) F through;
+      passed_none_waits = λ e. none_waits c.args.slots.now c.settle.new.slots (g.S.Search.kind c.args.search.now) (usable c.args.slots.now) (0, 0, c.in-Passed.stored) c.args.run.now c.args.run.now h e;
     }
 
 pub returns-in-Full : goal.returns-in-Full
@@ -25,8 +25,8 @@ returns-in-Full g c =
       means = λ F. tells c.args.slots.now c.settle.new.slots (g.S.Search.kind c.args.search.now) (usable c.args.slots.now) (2, 0, c.in-Full.stored) c.args.run.now c.args.run.now h (g.S.Search.fit c.args.search.now) (g.S.Search.misses c.args.search.now) F;
       more_slots_same_answer = λ f m l. leaves_more c.args.slots.now c.settle.new.slots (g.S.Search.kind c.args.search.now) (usable c.args.slots.now) (2, 0, c.in-Full.stored) c.args.run.now c.args.run.now h f m l;
       never_full = λ F through code N C l. never c.args.slots.now c.settle.new.slots (g.S.Search.kind c.args.search.now) (usable c.args.slots.now) (2, 0, c.in-Full.stored) c.args.run.now c.args.run.now h (g.S.Search.fit c.args.search.now) (g.S.Search.misses c.args.search.now) F through code N C l;
-      no-item-twice = λ F through. once c.args.slots.now c.settle.new.slots (g.S.Search.kind c.args.search.now) (usable c.args.slots.now) (2, 0, c.in-Full.stored) c.args.run.now c.args.run.now h (g.S.Search.fit c.args.search.now) (g.S.Search.misses c.args.search.now) F through;
-      passed-none-waits = λ e. none_waits c.args.slots.now c.settle.new.slots (g.S.Search.kind c.args.search.now) (usable c.args.slots.now) (2, 0, c.in-Full.stored) c.args.run.now c.args.run.now h e;
+      no_item_twice = λ F through. once c.args.slots.now c.settle.new.slots (g.S.Search.kind c.args.search.now) (usable c.args.slots.now) (2, 0, c.in-Full.stored) c.args.run.now c.args.run.now h (g.S.Search.fit c.args.search.now) (g.S.Search.misses c.args.search.now) F through;
+      passed_none_waits = λ e. none_waits c.args.slots.now c.settle.new.slots (g.S.Search.kind c.args.search.now) (usable c.args.slots.now) (2, 0, c.in-Full.stored) c.args.run.now c.args.run.now h e;
     }
 
 pub returns-in-Failed : goal.returns-in-Failed
@@ -38,6 +38,6 @@ returns-in-Failed g c =
       means = λ F. tells c.args.slots.now c.settle.new.slots (g.S.Search.kind c.args.search.now) (usable c.args.slots.now) (1, c.trace-long.result, c.in-Failed.stored) c.args.run.now c.trace-long.new.run h (g.S.Search.fit c.args.search.now) (g.S.Search.misses c.args.search.now) F;
       more_slots_same_answer = λ f m l. leaves_more c.args.slots.now c.settle.new.slots (g.S.Search.kind c.args.search.now) (usable c.args.slots.now) (1, c.trace-long.result, c.in-Failed.stored) c.args.run.now c.trace-long.new.run h f m l;
       never_full = λ F through code N C l. never c.args.slots.now c.settle.new.slots (g.S.Search.kind c.args.search.now) (usable c.args.slots.now) (1, c.trace-long.result, c.in-Failed.stored) c.args.run.now c.trace-long.new.run h (g.S.Search.fit c.args.search.now) (g.S.Search.misses c.args.search.now) F through code N C l;
-      no-item-twice = λ F through. once c.args.slots.now c.settle.new.slots (g.S.Search.kind c.args.search.now) (usable c.args.slots.now) (1, c.trace-long.result, c.in-Failed.stored) c.args.run.now c.trace-long.new.run h (g.S.Search.fit c.args.search.now) (g.S.Search.misses c.args.search.now) F through;
-      passed-none-waits = λ e. none_waits c.args.slots.now c.settle.new.slots (g.S.Search.kind c.args.search.now) (usable c.args.slots.now) (1, c.trace-long.result, c.in-Failed.stored) c.args.run.now c.trace-long.new.run h e;
+      no_item_twice = λ F through. once c.args.slots.now c.settle.new.slots (g.S.Search.kind c.args.search.now) (usable c.args.slots.now) (1, c.trace-long.result, c.in-Failed.stored) c.args.run.now c.trace-long.new.run h (g.S.Search.fit c.args.search.now) (g.S.Search.misses c.args.search.now) F through;
+      passed_none_waits = λ e. none_waits c.args.slots.now c.settle.new.slots (g.S.Search.kind c.args.search.now) (usable c.args.slots.now) (1, c.trace-long.result, c.in-Failed.stored) c.args.run.now c.trace-long.new.run h e;
     }

@@ -7,10 +7,10 @@ use Rattle.wording.proofs.answer.push_reason.Goals as goal
 
 pub returns : goal.returns
 returns c =
-    four_call c.push-text-3.result
-    (vec_items c.args.out.now) (vec_items c.push-text.new.out) (vec_items c.push-names.new.out) (vec_items c.push-text-2.new.out) (vec_items c.push-text-3.new.out)
+    four_call c.push_text-3.result
+    (vec_items c.args.out.now) (vec_items c.push_text.new.out) (vec_items c.push_names.new.out) (vec_items c.push_text-2.new.out) (vec_items c.push_text-3.new.out)
     (codes " (") (names_text (number_of c.args.refusal.now) (values_of c.args.refusal.now)) (reason c.args.refusal.now) (codes ")")
-    c.in-ok-push-text.ensures
-    c.in-ok-push-names.ensures
-    (c.in-ok-push-text-2.ensures ∙ ap (λ (l : List ℕ). vec_items c.push-names.new.out ++ l) c.reason.ensures)
-    c.push-text-3.ensures
+    c.in_ok-push_text.ensures
+    c.in_ok-push_names.ensures
+    (c.in_ok-push_text-2.ensures ∙ ap (λ (l : List ℕ). vec_items c.push_names.new.out ++ l) c.reason.ensures)
+    c.push_text-3.ensures

@@ -8,10 +8,10 @@ use Rattle.wording.proofs.answer.push_refusal.Goals as goal
 pub returns : goal.returns
 unfolding refusal_text
 returns c =
-    four_call c.push-reason.result
-    (vec_items c.args.out.now) (vec_items c.push-text.new.out) (vec_items c.push-number.new.out) (vec_items c.push-refused-values.new.out) (vec_items c.push-reason.new.out)
+    four_call c.push_reason.result
+    (vec_items c.args.out.now) (vec_items c.push_text.new.out) (vec_items c.push_number.new.out) (vec_items c.push_refused_values.new.out) (vec_items c.push_reason.new.out)
     (codes "refused ") (numeral (number_of c.args.refusal.now)) (values_text (values_of c.args.refusal.now)) (reason_text c.args.refusal.now)
-    c.in-ok-push-text.ensures
-    (c.in-ok-push-number.ensures ∙ ap (λ (n : ℕ). vec_items c.push-text.new.out ++ numeral n) c.number.ensures)
-    c.in-ok-push-refused-values.ensures
-    c.push-reason.ensures
+    c.in_ok-push_text.ensures
+    (c.in_ok-push_number.ensures ∙ ap (λ (n : ℕ). vec_items c.push_text.new.out ++ numeral n) c.number.ensures)
+    c.in_ok-push_refused_values.ensures
+    c.push_reason.ensures

@@ -7,20 +7,20 @@ use Rattle.wording.proofs.Shows.{each_from, each_on, each_to}
 use Rattle.wording.proofs.draw.draw.Goals as goal
 
 pub loop-state-init : goal.loop-state-init
-loop-state-init g c = each_from (vec_items c.push-text.new.out) (state_text (g.P.Plan.meaning c.args.plan.now))
+loop-state-init g c = each_from (vec_items c.push_text.new.out) (state_text (g.P.Plan.meaning c.args.plan.now))
 
 pub loop-state-preserved : goal.loop-state-preserved
 loop-state-preserved g c =
-    each_on (vec_items c.push-text.new.out) (vec_items c.loop-state.out) (vec_items c.push-state.new.out) c.loop-state.state (state_text (g.P.Plan.meaning c.args.plan.now))
-    c.loop-state.invariant c.in-ok-push-state.ensures
+    each_on (vec_items c.push_text.new.out) (vec_items c.loop-state.out) (vec_items c.push_state.new.out) c.loop-state.state (state_text (g.P.Plan.meaning c.args.plan.now))
+    c.loop-state.invariant c.in_ok-push_state.ensures
 
 pub returns : goal.returns
 returns g c =
     let A : Nfa = g.P.Plan.meaning c.args.plan.now in
     let all : c.loop-state.state ≡ A.count = omega (arith, c.count-state-end.ensures.answer) in
-    three_call c.push-text-2.result
-    (vec_items c.args.out.now) (vec_items c.push-text.new.out) (vec_items c.loop-state.out) (vec_items c.push-text-2.new.out)
+    three_call c.push_text-2.result
+    (vec_items c.args.out.now) (vec_items c.push_text.new.out) (vec_items c.loop-state.out) (vec_items c.push_text-2.new.out)
     (codes "digraph plan {" ++ (10 ∷ codes "  rankdir=LR;")) (each A.count (state_text A)) (10 ∷ codes "}")
-    c.in-ok-push-text.ensures
-    (each_to (vec_items c.push-text.new.out) (vec_items c.loop-state.out) c.loop-state.state A.count (state_text A) all c.loop-state.invariant)
-    c.push-text-2.ensures
+    c.in_ok-push_text.ensures
+    (each_to (vec_items c.push_text.new.out) (vec_items c.loop-state.out) c.loop-state.state A.count (state_text A) all c.loop-state.invariant)
+    c.push_text-2.ensures

@@ -6,8 +6,8 @@ use Rattle.wording.proofs.draw.push_node.Goals as goal
 
 pub returns : goal.returns
 returns c =
-    join_call c.push-text.result (vec_items c.args.out.now) (vec_items c.push-named-number.new.out) (vec_items c.push-text.new.out)
+    join_call c.push_text.result (vec_items c.args.out.now) (vec_items c.push_named_number.new.out) (vec_items c.push_text.new.out)
     (named_number (10 ∷ 32 ∷ 32 ∷ []) c.args.state) c.shape.result.now (node_text c.args.end c.args.state)
-    c.in-ok-push-named-number.ensures
+    c.in_ok-push_named_number.ensures
     (ap (λ (l : List ℕ). named_number (10 ∷ 32 ∷ 32 ∷ []) c.args.state ++ l) c.shape.ensures)
-    c.push-text.ensures
+    c.push_text.ensures

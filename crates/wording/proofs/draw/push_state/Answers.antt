@@ -10,11 +10,11 @@ unfolding state_text
 returns g c =
     let A : Nfa = g.P.Plan.meaning c.args.plan.now in
     let s : ℕ = c.args.state in
-    three_call c.push-arrows.result
-    (vec_items c.args.out.now) (vec_items c.push-node.new.out) (vec_items c.push-start.new.out) (vec_items c.push-arrows.new.out)
+    three_call c.push_arrows.result
+    (vec_items c.args.out.now) (vec_items c.push_node.new.out) (vec_items c.push_start.new.out) (vec_items c.push_arrows.new.out)
     (node_text (has A.ends s) s) (start_text (has A.starts s) s) (arrows_text A s)
-    (c.in-ok-push-node.ensures
+    (c.in_ok-push_node.ensures
     ∙ ap (λ (b : Bool). vec_items c.args.out.now ++ node_text b s) (c.contains.ensures ∙ ap (λ (x : ℕ). has x s) c.ends.ensures))
-    (c.in-ok-push-start.ensures
-    ∙ ap (λ (b : Bool). vec_items c.push-node.new.out ++ start_text b s) (c.contains-2.ensures ∙ ap (λ (x : ℕ). has x s) c.starts.ensures))
-    c.push-arrows.ensures
+    (c.in_ok-push_start.ensures
+    ∙ ap (λ (b : Bool). vec_items c.push_node.new.out ++ start_text b s) (c.contains-2.ensures ∙ ap (λ (x : ℕ). has x s) c.starts.ensures))
+    c.push_arrows.ensures

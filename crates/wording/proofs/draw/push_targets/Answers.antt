@@ -9,10 +9,10 @@ loop-to-init c = each_from (vec_items c.args.out.now) (λ (t : ℕ). arrow_text 
 
 pub loop-to-preserved : goal.loop-to-preserved
 loop-to-preserved c =
-    each_on (vec_items c.args.out.now) (vec_items c.loop-to.out) (vec_items c.push-arrow.new.out) c.loop-to.to
+    each_on (vec_items c.args.out.now) (vec_items c.loop-to.out) (vec_items c.push_arrow.new.out) c.loop-to.to
     (λ (t : ℕ). arrow_text (has c.args.targets t) c.args.from c.args.command t)
     c.loop-to.invariant
-    (c.in-ok-push-arrow.ensures ∙ ap (λ (b : Bool). vec_items c.loop-to.out ++ arrow_text b c.args.from c.args.command c.loop-to.to) c.contains.ensures)
+    (c.in_ok-push_arrow.ensures ∙ ap (λ (b : Bool). vec_items c.loop-to.out ++ arrow_text b c.args.from c.args.command c.loop-to.to) c.contains.ensures)
 
 pub returns : goal.returns
 returns c =

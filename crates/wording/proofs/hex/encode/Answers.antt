@@ -10,7 +10,7 @@ pub loop-b-preserved : goal.loop-b-preserved
 loop-b-preserved c =
     let first : List ℕ = vec_items c.args.out.now in
     let so_far : List ℕ = hexed (take c.loop-b.b-index c.args.bytes.now) in
-    join first _ _ _ _ (join first _ _ so_far _ c.loop-b.invariant c.in-ok-push.ensures.items) c.in-ok-push-2.ensures.items
+    join first _ _ _ _ (join first _ _ so_far _ c.loop-b.invariant c.in_ok-push.ensures.items) c.in_ok-push-2.ensures.items
     ∙ ap (λ (l : List ℕ). first ++ l)
     (append_assoc so_far _ _
     ∙ ap₂ (λ (a b : ℕ). so_far ++ (a ∷ b ∷ [])) c.letter.ensures c.letter-in-loop-b.ensures
@@ -24,5 +24,5 @@ returns c = record {
   appended = whole c;
   back = ap (λ (l : List ℕ). unhexed (drop (length (vec_items c.args.out.now)) l)) (whole c)
       ∙ ap unhexed (drop_at (vec_items c.args.out.now) (hexed c.args.bytes.now) _ refl)
-      ∙ unhexed_hexed c.args.bytes.now (All-from_get_or (λ b. b < 256) c.args.bytes.now 0 (λ i h. (c.type-inv.bytes i).fits));
+      ∙ unhexed_hexed c.args.bytes.now (All-from_get_or (λ b. b < 256) c.args.bytes.now 0 (λ i h. (c.type_inv.bytes i).fits));
 }

@@ -6,14 +6,14 @@ use Rattle.wording.proofs.names.push_command_name.Goals as goal
 
 pub returns-then-c-lt26 : goal.returns-then-c-lt26
 returns-then-c-lt26 c =
-    join_call c.push-byte.result (vec_items c.args.out.now) (vec_items c.push-text.new.out) (vec_items c.push-byte.new.out)
-    (codes "command ") ((97 + c.args.c) ∷ []) _ c.in-ok-push-text.ensures
+    join_call c.push_byte.result (vec_items c.args.out.now) (vec_items c.push_text.new.out) (vec_items c.push_byte.new.out)
+    (codes "command ") ((97 + c.args.c) ∷ []) _ c.in_ok-push_text.ensures
     (ap (λ (l : List ℕ). codes "command " ++ l) (sym (cond-true (ltb c.args.c 26) ((97 + c.args.c) ∷ []) (numeral c.args.c) (lt-ltb c.args.c 26 c.if-c-lt26.true))))
-    c.push-byte.ensures
+    c.push_byte.ensures
 
 pub returns : goal.returns
 returns c =
-    join_call c.push-number.result (vec_items c.args.out.now) (vec_items c.push-text.new.out) (vec_items c.push-number.new.out)
-    (codes "command ") (numeral c.args.c) _ c.in-ok-push-text.ensures
+    join_call c.push_number.result (vec_items c.args.out.now) (vec_items c.push_text.new.out) (vec_items c.push_number.new.out)
+    (codes "command ") (numeral c.args.c) _ c.in_ok-push_text.ensures
     (ap (λ (l : List ℕ). codes "command " ++ l) (sym (cond-false (ltb c.args.c 26) ((97 + c.args.c) ∷ []) (numeral c.args.c) (le-ltb c.args.c 26 c.if-c-lt26.false))))
-    c.push-number.ensures
+    c.push_number.ensures

@@ -5,12 +5,12 @@ use Rattle.wording.proofs.names.push_named.Goals as goal
 
 pub returns-then-last : goal.returns-then-last
 returns-then-last c =
-    join_call c.push-text.result (vec_items c.args.out.now) (vec_items c.push-value-name.new.out) (vec_items c.push-text.new.out)
-    (value_name c.args.number c.args.place c.args.value) (codes ": ") _ c.in-ok-push-value-name.ensures
-    (ap (λ (b : Bool). value_name c.args.number c.args.place c.args.value ++ cond b (codes ": ") (codes ", ")) (sym c.if-last.true)) c.push-text.ensures
+    join_call c.push_text.result (vec_items c.args.out.now) (vec_items c.push_value_name.new.out) (vec_items c.push_text.new.out)
+    (value_name c.args.number c.args.place c.args.value) (codes ": ") _ c.in_ok-push_value_name.ensures
+    (ap (λ (b : Bool). value_name c.args.number c.args.place c.args.value ++ cond b (codes ": ") (codes ", ")) (sym c.if-last.true)) c.push_text.ensures
 
 pub returns : goal.returns
 returns c =
-    join_call c.push-text-2.result (vec_items c.args.out.now) (vec_items c.push-value-name.new.out) (vec_items c.push-text-2.new.out)
-    (value_name c.args.number c.args.place c.args.value) (codes ", ") _ c.in-ok-push-value-name.ensures
-    (ap (λ (b : Bool). value_name c.args.number c.args.place c.args.value ++ cond b (codes ": ") (codes ", ")) (sym c.if-last.false)) c.push-text-2.ensures
+    join_call c.push_text-2.result (vec_items c.args.out.now) (vec_items c.push_value_name.new.out) (vec_items c.push_text-2.new.out)
+    (value_name c.args.number c.args.place c.args.value) (codes ", ") _ c.in_ok-push_value_name.ensures
+    (ap (λ (b : Bool). value_name c.args.number c.args.place c.args.value ++ cond b (codes ": ") (codes ", ")) (sym c.if-last.false)) c.push_text-2.ensures

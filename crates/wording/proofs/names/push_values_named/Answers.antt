@@ -4,8 +4,8 @@ use Rattle.wording.proofs.names.push_values_named.Goals as goal
 
 pub loop-place-preserved : goal.loop-place-preserved
 loop-place-preserved c =
-    names_more (vec_items c.args.out.now) (vec_items c.loop-place.out) (vec_items c.push-named.new.out) c.args.values.now c.args.number c.loop-place.place
-    c.loop-place-test.true c.loop-place.invariant c.in-ok-push-named.ensures
+    names_more (vec_items c.args.out.now) (vec_items c.loop-place.out) (vec_items c.push_named.new.out) c.args.values.now c.args.number c.loop-place.place
+    c.loop-place-test.true c.loop-place.invariant c.in_ok-push_named.ensures
 
 pub returns : goal.returns
 returns c =

@@ -5,7 +5,7 @@ use Rattle.automata.specs.Files.{when}
 use Rattle.wording.specs.Pairs.{pair_text}
 use Rattle.wording.proofs.Paired.{each_none, each_more, each_all, when_there, when_absent}
 use Rattle.wording.proofs.pairs.push_row.Goals as goal
-use Rattle.wording.proofs.pairs.push_row.Goals.{then-row-r-eq1+in-ok-push-pair, else-row-r-eq1}
+use Rattle.wording.proofs.pairs.push_row.Goals.{then-row-r-eq1+in_ok-push_pair, else-row-r-eq1}
 
 pub loop-r-init : goal.loop-r-init
 loop-r-init c = each_none (vec_items c.args.out.now) (λ (r : ℕ). when (has c.args.row r) (pair_text c.args.p r))
@@ -17,8 +17,8 @@ loop-r-preserved c =
     let was : List ℕ = vec_items c.loop-r.out in
     each_more (vec_items c.args.out.now) was (vec_items c.if-row-r-eq1.out) r (λ (r : ℕ). when (has row r) (pair_text c.args.p r)) c.loop-r.invariant
     (elim c.if-row-r-eq1.branch [
-      | then-row-r-eq1+in-ok-push-pair w ↦
-          when_there (has row r) was _ (pair_text c.args.p r) (eq-eqb (row / 2 ^ r % 2) 1 w.if-row-r-eq1.true) (ap vec_items w.out-is ∙ w.in-ok-push-pair.ensures)
+      | then-row-r-eq1+in_ok-push_pair w ↦
+          when_there (has row r) was _ (pair_text c.args.p r) (eq-eqb (row / 2 ^ r % 2) 1 w.if-row-r-eq1.true) (ap vec_items w.out-is ∙ w.in_ok-push_pair.ensures)
       | else-row-r-eq1 w ↦ ap vec_items w.out-is ∙ when_absent (has row r) was (pair_text c.args.p r) (ne_eqb (row / 2 ^ r % 2) 1 w.if-row-r-eq1.false)
     ])
 

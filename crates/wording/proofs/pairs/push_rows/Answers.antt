@@ -8,8 +8,8 @@ loop-p-init c = each_none (vec_items c.args.out.now) (λ (p : ℕ). row_pairs p 
 
 pub loop-p-preserved : goal.loop-p-preserved
 loop-p-preserved c =
-    each_more (vec_items c.args.out.now) (vec_items c.loop-p.out) (vec_items c.push-row.new.out) c.loop-p.p (λ (p : ℕ). row_pairs p (get_or c.args.rows.now p 0))
-    c.loop-p.invariant c.in-ok-push-row.ensures
+    each_more (vec_items c.args.out.now) (vec_items c.loop-p.out) (vec_items c.push_row.new.out) c.loop-p.p (λ (p : ℕ). row_pairs p (get_or c.args.rows.now p 0))
+    c.loop-p.invariant c.in_ok-push_row.ensures
 
 pub returns : goal.returns
 returns c =

@@ -7,7 +7,7 @@ use Rattle.wording.proofs.show.push_head.Goals as goal
 pub returns : goal.returns
 unfolding head_text
 returns c =
-    four_call c.push-named-set-2.result
-    (vec_items c.args.out.now) (vec_items c.push-text.new.out) (vec_items c.push-number.new.out) (vec_items c.push-named-set.new.out) (vec_items c.push-named-set-2.new.out)
+    four_call c.push_named_set-2.result
+    (vec_items c.args.out.now) (vec_items c.push_text.new.out) (vec_items c.push_number.new.out) (vec_items c.push_named_set.new.out) (vec_items c.push_named_set-2.new.out)
     (codes "states ") (numeral c.args.count) (named_set (codes ", starts ") c.args.starts) (named_set (codes ", ends ") c.args.ends)
-    c.in-ok-push-text.ensures c.in-ok-push-number.ensures c.in-ok-push-named-set.ensures c.push-named-set-2.ensures
+    c.in_ok-push_text.ensures c.in_ok-push_number.ensures c.in_ok-push_named_set.ensures c.push_named_set-2.ensures

@@ -5,7 +5,7 @@ use Rattle.wording.specs.Show.{members}
 use Rattle.wording.proofs.Appends.{join_as}
 use Rattle.wording.proofs.Shows.{none, members_text, members_zero, members_in, members_out, none_in}
 use Rattle.wording.proofs.show.push_members.Goals as goal
-use Rattle.wording.proofs.show.push_members.Goals.{then-contains+in-ok-push-next, else-contains}
+use Rattle.wording.proofs.show.push_members.Goals.{then-contains+in_ok-push_next, else-contains}
 
 pub loop-k-init : goal.loop-k-init
 loop-k-init c = (
@@ -19,12 +19,12 @@ loop-k-preserved c =
     let set : ℕ = c.args.set in
     let was : List ℕ = vec_items c.loop-k.out in
     elim c.if-contains.branch [
-      | then-contains+in-ok-push-next w ↦ (
+      | then-contains+in_ok-push_next w ↦ (
         ap vec_items w.out-is
-            ∙ join_as (vec_items c.args.out.now) was (vec_items w.push-next.new.out) (members_text k set) _ (members_text (k + 1) set)
+            ∙ join_as (vec_items c.args.out.now) was (vec_items w.push_next.new.out) (members_text k set) _ (members_text (k + 1) set)
             c.loop-k.invariant.0
             (members_in k set (sym w.if-contains.ensures))
-            (w.in-ok-push-next.ensures ∙ ap (λ (b : Bool). was ++ (cond b [] (32 ∷ []) ++ numeral k)) c.loop-k.invariant.1),
+            (w.in_ok-push_next.ensures ∙ ap (λ (b : Bool). was ++ (cond b [] (32 ∷ []) ++ numeral k)) c.loop-k.invariant.1),
         w.first-is ∙ sym (none_in k set (sym w.if-contains.ensures)),
       )
       | else-contains w ↦

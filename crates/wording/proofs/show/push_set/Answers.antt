@@ -5,7 +5,7 @@ use Rattle.wording.proofs.show.push_set.Goals as goal
 
 pub returns : goal.returns
 returns c =
-    three_call c.push-text-2.result
-    (vec_items c.args.out.now) (vec_items c.push-text.new.out) (vec_items c.push-members.new.out) (vec_items c.push-text-2.new.out)
+    three_call c.push_text-2.result
+    (vec_items c.args.out.now) (vec_items c.push_text.new.out) (vec_items c.push_members.new.out) (vec_items c.push_text-2.new.out)
     (codes "{") (members_text 32 c.args.set) (codes "}")
-    c.in-ok-push-text.ensures c.in-ok-push-members.ensures c.push-text-2.ensures
+    c.in_ok-push_text.ensures c.in_ok-push_members.ensures c.push_text-2.ensures

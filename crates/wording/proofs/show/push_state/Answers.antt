@@ -12,7 +12,7 @@ loop-command-init g c =
 
 pub loop-command-preserved : goal.loop-command-preserved
 loop-command-preserved g c =
-    join_as (vec_items c.args.out.now) (vec_items c.loop-command.out) (vec_items c.push-arrows.new.out) _ _ _
+    join_as (vec_items c.args.out.now) (vec_items c.loop-command.out) (vec_items c.push_arrows.new.out) _ _ _
     c.loop-command.invariant
     (each_more c.loop-command.command (λ k. arrows_text c.args.state k ((g.P.Plan.meaning c.args.plan.now).targets c.args.state k)))
-    (c.in-ok-push-arrows.ensures ∙ ap (λ (x : ℕ). vec_items c.loop-command.out ++ arrows_text c.args.state c.loop-command.command x) c.targets.ensures)
+    (c.in_ok-push_arrows.ensures ∙ ap (λ (x : ℕ). vec_items c.loop-command.out ++ arrows_text c.args.state c.loop-command.command x) c.targets.ensures)

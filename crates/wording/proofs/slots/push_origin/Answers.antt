@@ -6,8 +6,8 @@ use Rattle.wording.proofs.slots.push_origin.Goals as goal
 
 pub returns : goal.returns
 returns c =
-    four_call c.push-text.result
-    (vec_items c.args.out.now) (vec_items c.push-named-number.new.out) (vec_items c.push-named-number-2.new.out) (vec_items c.push-named-number-3.new.out) (vec_items c.push-text.new.out)
+    four_call c.push_text.result
+    (vec_items c.args.out.now) (vec_items c.push_named_number.new.out) (vec_items c.push_named_number-2.new.out) (vec_items c.push_named_number-3.new.out) (vec_items c.push_text.new.out)
     (named_number (codes " depth ") c.args.depth) (named_number (codes " parent ") c.args.parent) (named_number (codes " command ") c.args.command) (mark_text c.args.mark)
-    c.in-ok-push-named-number.ensures c.in-ok-push-named-number-2.ensures c.in-ok-push-named-number-3.ensures
-    (same_call c.push-text.result (vec_items c.push-named-number-3.new.out) (vec_items c.push-text.new.out) _ _ c.mark-word.ensures c.push-text.ensures)
+    c.in_ok-push_named_number.ensures c.in_ok-push_named_number-2.ensures c.in_ok-push_named_number-3.ensures
+    (same_call c.push_text.result (vec_items c.push_named_number-3.new.out) (vec_items c.push_text.new.out) _ _ c.mark_word.ensures c.push_text.ensures)

@@ -3,9 +3,9 @@ use Rattle.script.specs.Words.{words}
 use Rattle.wording.proofs.Appends.{join_as, first_spaced}
 use Rattle.wording.proofs.text.push_first_word.Goals as goal
 
-pub returns-in-ok-push-text : goal.returns-in-ok-push-text
-returns-in-ok-push-text c =
-    join_as (vec_items c.args.out.now) (vec_items c.push-byte.new.out) (vec_items c.push-text.new.out) (32 ∷ []) _ _
-    c.in-ok-push-byte.ensures
+pub returns-in_ok-push_text : goal.returns-in_ok-push_text
+returns-in_ok-push_text c =
+    join_as (vec_items c.args.out.now) (vec_items c.push_byte.new.out) (vec_items c.push_text.new.out) (32 ∷ []) _ _
+    c.in_ok-push_byte.ensures
     (first_spaced _ _ (words c.args.line.now) c.in-Some.ensures.0)
-    c.in-ok-push-text.ensures
+    c.in_ok-push_text.ensures

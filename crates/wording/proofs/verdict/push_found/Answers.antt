@@ -6,8 +6,8 @@ use Rattle.wording.proofs.verdict.push_found.Goals as goal
 
 pub returns : goal.returns
 returns c =
-    join_call c.push-told-run.result (vec_items c.args.out.now) (vec_items c.push-text.new.out) (vec_items c.push-told-run.new.out)
+    join_call c.push_told_run.result (vec_items c.args.out.now) (vec_items c.push_text.new.out) (vec_items c.push_told_run.new.out)
     (codes ", run ") (told_run c.args.run.now) (found_text c.args.verdict c.args.run.now)
-    c.in-ok-push-text.ensures
+    c.in_ok-push_text.ensures
     (sym (cond-true (eqb c.args.verdict 1) (codes ", run " ++ told_run c.args.run.now) [] (eq-eqb c.args.verdict 1 c.if-verdict-ne1.false)))
-    c.push-told-run.ensures
+    c.push_told_run.ensures

@@ -7,10 +7,10 @@ use Rattle.wording.proofs.verdict.push_letters.Goals as goal
 pub loop-command-preserved : goal.loop-command-preserved
 loop-command-preserved c =
     let so_far : List ℕ = map letter (take c.loop-command.command-index c.args.run.now) in
-    join_as (vec_items c.args.out.now) (vec_items c.loop-command.out) (vec_items c.push-byte.new.out) so_far (c.letter.result ∷ []) _
+    join_as (vec_items c.args.out.now) (vec_items c.loop-command.out) (vec_items c.push_byte.new.out) so_far (c.letter.result ∷ []) _
     c.loop-command.invariant
     (ap (λ (b : ℕ). so_far ++ (b ∷ [])) c.letter.ensures ∙ sym (map_more letter c.args.run.now c.loop-command.command-index 0 c.loop-command-test.true))
-    c.in-ok-push-byte.ensures
+    c.in_ok-push_byte.ensures
 
 pub returns : goal.returns
 returns c =

@@ -5,7 +5,7 @@ use Rattle.wording.proofs.verdict.push_told_run.Goals as goal
 
 pub returns : goal.returns
 returns c =
-    four_call c.push-text-2.result
-    (vec_items c.args.out.now) (vec_items c.push-run.new.out) (vec_items c.push-text.new.out) (vec_items c.push-then.new.out) (vec_items c.push-text-2.new.out)
+    four_call c.push_text-2.result
+    (vec_items c.args.out.now) (vec_items c.push_run.new.out) (vec_items c.push_text.new.out) (vec_items c.push_then.new.out) (vec_items c.push_text-2.new.out)
     (run_text c.args.run.now) (codes " (start") (then_text c.args.run.now) (codes ")")
-    c.in-ok-push-run.ensures c.in-ok-push-text.ensures c.in-ok-push-then.ensures c.push-text-2.ensures
+    c.in_ok-push_run.ensures c.in_ok-push_text.ensures c.in_ok-push_then.ensures c.push_text-2.ensures

@@ -7,9 +7,9 @@ pub returns : goal.returns
 unfolding finding_text
 returns c =
     let r = c.args.answer in
-    join_call c.push-found.result (vec_items c.args.out.now) (vec_items c.push-text.new.out) (vec_items c.push-found.new.out)
+    join_call c.push_found.result (vec_items c.args.out.now) (vec_items c.push_text.new.out) (vec_items c.push_found.new.out)
     (meaning_text r.0) (found_text r.0 (take r.1 c.args.run.now)) _
-    (c.in-ok-push-text.ensures ∙ ap (λ (l : List ℕ). vec_items c.args.out.now ++ l) c.meaning.ensures) refl
-    (same_call c.push-found.result (vec_items c.push-text.new.out) (vec_items c.push-found.new.out) _ _
+    (c.in_ok-push_text.ensures ∙ ap (λ (l : List ℕ). vec_items c.args.out.now ++ l) c.meaning.ensures) refl
+    (same_call c.push_found.result (vec_items c.push_text.new.out) (vec_items c.push_found.new.out) _ _
     (ap (found_text r.0) (take_within r.1 c.min.result c.args.run.now c.min.ensures))
-    c.push-found.ensures)
+    c.push_found.ensures)

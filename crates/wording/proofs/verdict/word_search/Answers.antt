@@ -8,12 +8,12 @@ pub returns : goal.returns
 unfolding search_text
 returns c =
     let r = c.args.answer in
-    four_call c.push-found.result
-    (vec_items c.args.out.now) (vec_items c.push-text.new.out) (vec_items c.push-named-number.new.out) (vec_items c.push-named-number-2.new.out) (vec_items c.push-found.new.out)
+    four_call c.push_found.result
+    (vec_items c.args.out.now) (vec_items c.push_text.new.out) (vec_items c.push_named_number.new.out) (vec_items c.push_named_number-2.new.out) (vec_items c.push_found.new.out)
     (verdict_text r.0) (named_number (codes ", length ") r.1) (named_number (codes ", stored ") r.2) (found_text r.0 (take r.1 c.args.run.now))
-    (c.in-ok-push-text.ensures ∙ ap (λ (l : List ℕ). vec_items c.args.out.now ++ l) c.verdict-word.ensures)
-    c.in-ok-push-named-number.ensures
-    c.in-ok-push-named-number-2.ensures
-    (same_call c.push-found.result (vec_items c.push-named-number-2.new.out) (vec_items c.push-found.new.out) _ _
+    (c.in_ok-push_text.ensures ∙ ap (λ (l : List ℕ). vec_items c.args.out.now ++ l) c.verdict_word.ensures)
+    c.in_ok-push_named_number.ensures
+    c.in_ok-push_named_number-2.ensures
+    (same_call c.push_found.result (vec_items c.push_named_number-2.new.out) (vec_items c.push_found.new.out) _ _
     (ap (found_text r.0) (take_within r.1 c.min.result c.args.run.now c.min.ensures))
-    c.push-found.ensures)
+    c.push_found.ensures)

@@ -8,11 +8,11 @@ use Rattle.guard.proofs.guard.Guard.arrow.Goals as goal
 
 pub returns : goal.returns
 returns c =
-    let e = c.in-ok-draw.ensures in
+    let e = c.in_ok-draw.ensures in
     record { answer = e; promised = stepped (guard_of c.args.self.now) (guard_of c.draw.new.self) (Draw c.args.side (Arrow c.args.from c.args.command c.args.to)) done e }
 
-pub returns-in-err-draw : goal.returns-in-err-draw
-returns-in-err-draw c =
+pub returns-in_err-draw : goal.returns-in_err-draw
+returns-in_err-draw c =
     let p = err_from_is_err_and c.from-residual.result c.from-residual.ensures.1 in
-    let e = c.in-err-draw.ensures in
+    let e = c.in_err-draw.ensures in
     rw (p.1, p.2) (record { answer = e; promised = stepped (guard_of c.args.self.now) (guard_of c.draw.new.self) (Draw c.args.side (Arrow c.args.from c.args.command c.args.to)) _ e })

@@ -10,8 +10,8 @@ returns c =
     let o = rowed c.args.order.now in
     let s = c.open-outcome in
     record {
-      answer = listed_step g (guard_of c.args.self.now) (Open c.args.commands) o c.args.slots c.args.bytes c.usable.result c.usable-2.result c.set-slots-store.result s.new.slots c.zeros-run.result s.new.run s.result
-          c.set-slots-store.ensures c.zeros-run.ensures c.usable.ensures c.usable-2.ensures s.auto.run s.ensures.search.leaves (answer_of c.found.result) c.found.ensures.answer s.ensures.answer;
-      clear = c.found.ensures.clear (listed_clear g (guard_of c.args.self.now) (Open c.args.commands) o c.args.slots c.args.bytes c.usable.result c.usable-2.result c.set-slots-store.result s.new.slots c.zeros-run.result s.new.run s.result
-          c.set-slots-store.ensures c.zeros-run.ensures c.usable.ensures c.usable-2.ensures s.auto.run s.ensures.search.leaves);
+      answer = listed_step g (guard_of c.args.self.now) (Open c.args.commands) o c.args.slots c.args.bytes c.usable.result c.usable-2.result c.set_slots-store.result s.new.slots c.zeros-run.result s.new.run s.result
+          c.set_slots-store.ensures c.zeros-run.ensures c.usable.ensures c.usable-2.ensures s.auto.run s.ensures.search.leaves (answer_of c.found.result) c.found.ensures.answer s.ensures.answer;
+      clear = c.found.ensures.clear (listed_clear g (guard_of c.args.self.now) (Open c.args.commands) o c.args.slots c.args.bytes c.usable.result c.usable-2.result c.set_slots-store.result s.new.slots c.zeros-run.result s.new.run s.result
+          c.set_slots-store.ensures c.zeros-run.ensures c.usable.ensures c.usable-2.ensures s.auto.run s.ensures.search.leaves);
     }

@@ -11,8 +11,8 @@ nothing : (f : List ℕ) → length f ≡ 0 → f ≡ []
 nothing [] h = refl
 nothing (x ∷ f) h = absurd (omega arith)
 
-pub returns-then-is-empty : goal.returns-then-is-empty
-returns-then-is-empty c = refused_as c.args.bytes.now _ 0 refl (inl (nothing _ (eqb-true (length c.args.bytes.now) 0 (sym c.if-is-empty.ensures)), refl, refl))
+pub returns-then-is_empty : goal.returns-then-is_empty
+returns-then-is_empty c = refused_as c.args.bytes.now _ 0 refl (inl (nothing _ (eqb-true (length c.args.bytes.now) 0 (sym c.if-is_empty.ensures)), refl, refl))
 
 pub loop-at-init : goal.loop-at-init
 loop-at-init c = (omega arith, read_start c.args.bytes.now)

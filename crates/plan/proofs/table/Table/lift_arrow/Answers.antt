@@ -26,8 +26,8 @@ returns c =
 pub invariant-of-self : goal.invariant-of-self
 invariant-of-self c =
     let t = c.args.self.now in
-    let k = c.in-ok-place.place in
-    let h = c.in-ok-place.ensures in
+    let k = c.in_ok-place.place in
+    let h = c.in_ok-place.ensures in
     let e = c.without.ensures.taken (omega (arith, h, c.args.self.now.few)) in
     let l : c.without.result < 2 ^ t.count = subst (λ (x : ℕ). x < 2 ^ t.count) (sym e) (without_within (get_or t.arrows k 0) c.args.to t.count (t.within k)) in (
       t.few,

@@ -3,4 +3,4 @@ use Rattle.search.proofs.pairs.PairsSearch.hopeless.Goals as goal
 
 pub returns : goal.returns
 unfolding pairs
-returns g c = c.is-under.ensures
+returns g c = c.is_under.ensures

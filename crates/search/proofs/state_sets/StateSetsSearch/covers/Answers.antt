@@ -3,4 +3,4 @@ use Rattle.search.proofs.state_sets.StateSetsSearch.covers.Goals as goal
 
 pub returns : goal.returns
 unfolding sets
-returns g c = c.are-under.ensures
+returns g c = c.are_under.ensures

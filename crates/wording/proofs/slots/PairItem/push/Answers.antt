@@ -7,6 +7,6 @@ use Rattle.wording.proofs.slots.PairItem.push.Goals as goal
 
 pub returns : goal.returns
 returns c =
-    join_call c.push-named-set.result (vec_items c.args.out.now) (vec_items c.push-named-number.new.out) (vec_items c.push-named-set.new.out)
+    join_call c.push_named_set.result (vec_items c.args.out.now) (vec_items c.push_named_number.new.out) (vec_items c.push_named_set.new.out)
     (named_number (codes " pair ") c.args.self.now.state) (named_set (codes " ") c.args.self.now.states) (pair_item c.args.self.now)
-    c.in-ok-push-named-number.ensures refl c.push-named-set.ensures
+    c.in_ok-push_named_number.ensures refl c.push_named_set.ensures
