@@ -23,22 +23,17 @@ returns c =
       no_run_gained = subst (λ (A : Nfa). Included A (drawn t)) (sym drew) (lift_included c.args.from c.args.command c.args.to (drawn t));
     }
 
-pub invariant-of-self : goal.invariant-of-self
-invariant-of-self c =
+pub invariant_of-self : goal.invariant_of-self
+invariant_of-self c =
     let t = c.args.self.now in
     let k = c.in_ok-place.place in
     let h = c.in_ok-place.ensures in
     let e = c.without.ensures.taken (omega (arith, h, c.args.self.now.few)) in
-    let l : c.without.result < 2 ^ t.count = subst (λ (x : ℕ). x < 2 ^ t.count) (sym e) (without_within (get_or t.arrows k 0) c.args.to t.count (t.within k)) in (
-      t.few,
-      (
-        t.starting,
-        (
-          t.ending,
-          (
-            set_within t.arrows k c.without.result t.count (omega (arith, h, c.args.self.now.few)) t.within l,
-            (set_beyond t.arrows k c.without.result t.count (omega (arith, h)) t.beyond, tt),
-          ),
-        ),
-      ),
-    )
+    let l : c.without.result < 2 ^ t.count = subst (λ (x : ℕ). x < 2 ^ t.count) (sym e) (without_within (get_or t.arrows k 0) c.args.to t.count (t.within k)) in 
+    record {
+      few = t.few;
+      starting = t.starting;
+      ending = t.ending;
+      within = set_within t.arrows k c.without.result t.count (omega (arith, h, c.args.self.now.few)) t.within l;
+      beyond = set_beyond t.arrows k c.without.result t.count (omega (arith, h)) t.beyond;
+    }

@@ -14,9 +14,9 @@ returns c =
     let drew : tabled t.count t.starts c.with-self.result t.arrows ≡ with_end c.args.state (drawn t) = ap (λ (x : ℕ). tabled t.count t.starts x t.arrows) e in
     record { answer = (search rules, drew); no_run_lost = subst (λ (A : Nfa). Included (drawn t) A) (sym drew) (end_included c.args.state (drawn t)) }
 
-pub invariant-of-self : goal.invariant-of-self
-invariant-of-self c =
+pub invariant_of-self : goal.invariant_of-self
+invariant_of-self c =
     let t = c.args.self.now in
     let e = c.with-self.ensures.added (omega (arith, c.args.self.now.few)) in
     let l : c.with-self.result < 2 ^ t.count = subst (λ (x : ℕ). x < 2 ^ t.count) (sym e) (along_within t.ends c.args.state t.count t.ending c.if-state-self.false) in
-    (t.few, (t.starting, (l, (t.within, (t.beyond, tt)))))
+    record { few = t.few; starting = t.starting; ending = l; within = t.within; beyond = t.beyond }

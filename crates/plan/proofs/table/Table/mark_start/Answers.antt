@@ -14,9 +14,9 @@ returns c =
     let drew : tabled t.count c.with-self.result t.ends t.arrows ≡ with_start c.args.state (drawn t) = ap (λ (x : ℕ). tabled t.count x t.ends t.arrows) e in
     record { answer = (search rules, drew); no_run_lost = subst (λ (A : Nfa). Included (drawn t) A) (sym drew) (start_included c.args.state (drawn t)) }
 
-pub invariant-of-self : goal.invariant-of-self
-invariant-of-self c =
+pub invariant_of-self : goal.invariant_of-self
+invariant_of-self c =
     let t = c.args.self.now in
     let e = c.with-self.ensures.added (omega (arith, c.args.self.now.few)) in
     let l : c.with-self.result < 2 ^ t.count = subst (λ (x : ℕ). x < 2 ^ t.count) (sym e) (along_within t.starts c.args.state t.count t.starting c.if-state-self.false) in
-    (t.few, (l, (t.ending, (t.within, (t.beyond, tt)))))
+    record { few = t.few; starting = l; ending = t.ending; within = t.within; beyond = t.beyond }
