@@ -12,8 +12,8 @@ spelt w text verb others = cond (bytes_eq w (codes text)) (Some verb) others
 -- the verb of a statement about searches and what they release that a word is, if it is one
 abbrev pub search_verb_of : List ℕ → Option Verb
 search_verb_of w =
-    spelt w "compare_plans" ComparePlans
-    (spelt w "open_plan" OpenPlan
+    spelt w "compare-plans" ComparePlans
+    (spelt w "open-plan" OpenPlan
     (spelt w "slots" Slots
     (spelt w "compare" Compare
     (spelt w "open" Open
@@ -26,9 +26,9 @@ order_verb_of w =
     spelt w "pairs" Pairs
     (spelt w "deliver" Deliver
     (spelt w "rank" Rank
-    (spelt w "rank_plans" RankPlans
+    (spelt w "rank-plans" RankPlans
     (spelt w "test" Test
-    (spelt w "test_plans" TestPlans
+    (spelt w "test-plans" TestPlans
     (search_verb_of w))))))
 
 -- the verb that a word is, if it is one
