@@ -22,7 +22,7 @@ def rust_names():
 
 
 def imported(text):
-    return {n.strip().split(" as ")[-1] for m in re.finditer(r"^use [^{\n]*\.\{([^}]*)\}", text, re.M) for n in m[1].split(",")}
+    return {n.strip().split(" as ")[-1] for m in re.finditer(r"^use (?!\S*(?:Goals|Given)\.)[^{\n]*\.\{([^}]*)\}", text, re.M) for n in m[1].split(",")}
 
 
 def main():

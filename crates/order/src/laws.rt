@@ -136,7 +136,7 @@ fn end_not_kept(ends: u64, rows: &[u64; 64]) -> Option<Refusal>
 
 /// The rows with the pairs alone whose arrows are all matched, in bulk: the law of arrows holds when no pair is lost.
 fn matched(sources: &[u64; 1664], rows: &[u64; 64]) -> [u64; 64]
-    ensures* { λ t. ⌜ ((p r : ℕ) → (bits t p r ≡ true) ↔ ((bits rows.now p r ≡ true) × ((t : ℕ) → t < 64 → Matches sources.now t (slice_index rows.now t) p r))) ⌝ }
+    ensures { (p r : ℕ) → (bits result p r ≡ true) ↔ ((bits rows.now p r ≡ true) × ((t : ℕ) → t < 64 → Matches sources.now t (slice_index rows.now t) p r)) }
 {
     let mut left = *rows;
     for t in 0..64u8 {
