@@ -5,5 +5,5 @@ use Rattle.wording.proofs.answer.word_answer.Goals as goal
 
 pub returns-in-UnknownPlan : goal.returns-in-UnknownPlan
 returns-in-UnknownPlan c =
-    same_call c.push-text_in-UnknownPlan.result (vec_items c.args.out.now) (vec_items c.push-text_in-UnknownPlan.new.out) (codes "unknown plan") _
-    (ap answer_text (sym c.in-UnknownPlan.is)) c.push-text_in-UnknownPlan.ensures
+    same_call c.push_text-in-UnknownPlan.result (vec_items c.args.out.now) (vec_items c.push_text-in-UnknownPlan.new.out) (codes "unknown plan") _
+    (ap answer_text (sym c.in-UnknownPlan.is)) c.push_text-in-UnknownPlan.ensures

@@ -9,5 +9,5 @@ returns g c =
     let x = c.args.slot.now in
     three_call c.push_origin.result
     (vec_items c.args.out.now) (vec_items c.push_named_number.new.out) (vec_items c.push.new.out) (vec_items c.push_origin.new.out)
-    (named_number (10 ∷ 32 ∷ 32 ∷ []) c.args.number) (g.I-as-Item.text x.item) (origin_text x.depth x.parent x.command x.mark)
+    (named_number (10 ∷ 32 ∷ 32 ∷ []) c.args.number) (g.I.Item.text x.item) (origin_text x.depth x.parent x.command x.mark)
     c.in_ok-push_named_number.ensures c.in_ok-push.ensures c.push_origin.ensures

@@ -25,7 +25,7 @@ returns-in_err-answer g c =
     let s : List (Slot Pair) = c.args.slots.now in
     let b : List ℕ = c.args.run.now in
     let w : List ℕ = c.compare.new.run in
-    let p = err_from_is_err_and c.from-residual.result c.from-residual.ensures.1 in
+    let p = err_from_is_err_and c.from_residual.result c.from_residual.ensures.1 in
     let h = c.in_err-answer.ensures in
     let e = search_refused (guard_of c.args.self.now) Compare o s c.compare.new.slots b w c.in_err-answer.field-0.0 h.leaves in
     rw (p.1, p.2) (record { answer = e; search = h; promised = stepped (guard_of c.args.self.now) (guard_of c.args.self.now) (Search Compare o (length s) (length b)) (as_found (Err c.in_err-answer.field-0.0) w) e })

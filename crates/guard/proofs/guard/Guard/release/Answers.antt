@@ -15,6 +15,6 @@ returns c =
 pub returns-in_err-follow : goal.returns-in_err-follow
 returns-in_err-follow c =
     let g = guard_of c.args.self.now in
-    let p = err_from_is_err_and c.from-residual.result c.from-residual.ensures.1 in
+    let p = err_from_is_err_and c.from_residual.result c.from_residual.ensures.1 in
     let e = release_refused g _ c.in_err-follow.ensures in
     rw (p.1, p.2) (record { answer = e; promised = stepped g g Release _ e })

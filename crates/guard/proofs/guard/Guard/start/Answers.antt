@@ -13,6 +13,6 @@ returns c =
 
 pub returns-in_err-draw : goal.returns-in_err-draw
 returns-in_err-draw c =
-    let p = err_from_is_err_and c.from-residual.result c.from-residual.ensures.1 in
+    let p = err_from_is_err_and c.from_residual.result c.from_residual.ensures.1 in
     let e = c.in_err-draw.ensures in
     rw (p.1, p.2) (record { answer = e; promised = stepped (guard_of c.args.self.now) (guard_of c.draw.new.self) (Draw c.args.side (Start c.args.state)) _ e })
