@@ -70,7 +70,7 @@ fn the_file_of_a_loop(rt: HostRuntime) -> Result<(), Fail> {
     assert!(rt; matches!(write(&table, &mut buffer), Ok(22)));
     let (front, back) = buffer.split_at(22);
     assert!(rt; front == LOOP_FILE);
-    assert!(rt; back == [9, 9]);
+    assert!(rt; back == [9, 9].as_slice());
     let mut short = [9u8; 21];
     match write(&table, &mut short) {
         Ok(_) => return Err(Fail::new("written")),

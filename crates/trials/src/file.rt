@@ -43,7 +43,7 @@ pub(crate) fn is_known_file(heap: Global) -> Result<bool, AllocError> {
     if every_run(heap, 1)?.draw_on(&mut table).is_err() {
         return Ok(false);
     }
-    if file_of(heap, &table)?.as_slice() != known {
+    if file_of(heap, &table)?.as_slice() != known.as_slice() {
         return Ok(false);
     }
     is_own_file(heap, known)
