@@ -27,5 +27,6 @@ pub mod Ranked
 pub mod Listed
 pub mod Matched
 pub mod Tested
+pub mod TestedCases
 pub mod Sided
 pub mod Reduced

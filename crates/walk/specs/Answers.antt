@@ -5,15 +5,15 @@ use Rattle.walk.specs.Runs.{run_of}
 use Rattle.walk.specs.Walks.{Outcome, passed, failed, full, walk}
 use Rattle.walk.specs.declared.slot.Slot.{Slot}
 
--- of n slots that are handed in the first 4,096 are usable, or all if fewer
+-- the usable slots are the first 4,096 of those handed in, or all if fewer
+abbrev pub usable : {I : Type 0} → List (Slot I) → ℕ
+usable s = min 4096 (length s)
+
+-- how many of n slots are usable
 abbrev pub usable_of : ℕ → ℕ
 usable_of n = min 4096 n
 
--- how many of these slots are usable
-abbrev pub usable : {I : Type 0} → List (Slot I) → ℕ
-usable s = usable_of (length s)
-
--- the verdicts by their numbers
+-- the verdicts by their numbers, which `verdict` gives
 abbrev pub passed_number : ℕ
 passed_number = 0
 
@@ -26,9 +26,9 @@ full_number = 2
 module _ {I : Type 0} where
   -- the number of the verdict
   abbrev pub verdict : Outcome I → ℕ
-  verdict (passed s) = passed_number
-  verdict (failed x s) = failed_number
-  verdict (full s) = full_number
+  verdict (passed s) = 0
+  verdict (failed x s) = 1
+  verdict (full s) = 2
 
   -- the run handed back: that of the hit, and none unless failed
   abbrev pub run : Outcome I → List ℕ

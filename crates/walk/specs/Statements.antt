@@ -4,7 +4,7 @@ use Rattle.walk.specs.Lists.{All, Distinct}
 use Rattle.walk.specs.Slots.{waits, items}
 use Rattle.walk.specs.Kinds.{Kind, Facts, Transitive, Missed}
 use Rattle.walk.specs.Walks.{Outcome, passed, failed, full, walk}
-use Rattle.walk.specs.Answers.{usable, passed_number, failed_number, full_number, run, stored, Leaves}
+use Rattle.walk.specs.Answers.{usable, run, stored, Leaves}
 use Rattle.walk.specs.declared.slot.Slot.{Slot}
 
 -- Of the definition.
@@ -56,9 +56,9 @@ Sufficient {I} K Fit Misses = Facts K Fit Misses → Transitive K Fit → (code 
 
 -- what the verdict and the run in the buffer mean
 pub record Tells {I : Type 0} (K : Kind I) (Misses : I → List ℕ → Type 0) (r : ℕ × ℕ × ℕ) (written : List ℕ) : Type 0 where
-  pub passed_none : r.0 ≡ passed_number → (v : List ℕ) → Missed K Misses v → ⊥
-  pub failed_missed : r.0 ≡ failed_number → Missed K Misses (take r.1 written)
-  pub failed_shortest : r.0 ≡ failed_number → (v : List ℕ) → Missed K Misses v → r.1 ≤ length v
+  pub passed_none : r.0 ≡ 0 → (v : List ℕ) → Missed K Misses v → ⊥
+  pub failed_missed : r.0 ≡ 1 → Missed K Misses (take r.1 written)
+  pub failed_shortest : r.0 ≡ 1 → (v : List ℕ) → Missed K Misses v → r.1 ≤ length v
 
 abbrev pub Means : {I : Type 0} → Kind I → (I → List ℕ → Type 0) → Option (ℕ × ℕ × ℕ) → List ℕ → Type 0
 Means K Misses None written = Unit {0}
@@ -67,12 +67,12 @@ Means K Misses (Some r) written = Tells K Misses r written
 -- unless full, the walk over any larger number of slots leaves the same answer, slots and run
 abbrev pub SameWithMore : {I : Type 0} → Kind I → Option (ℕ × ℕ × ℕ) → List (Slot I) → List (Slot I) → List ℕ → List ℕ → Type 0
 SameWithMore K None before later blank written = Unit {0}
-SameWithMore K (Some r) before later blank written = (r.0 ≢ full_number) → (m : ℕ) → usable before ≤ m → Leaves (walk K m) r before later blank written
+SameWithMore K (Some r) before later blank written = (r.0 ≢ 2) → (m : ℕ) → usable before ≤ m → Leaves (walk K m) r before later blank written
 
 -- the verdict is not full where there are as many usable slots as fit items
 abbrev pub NeverFull : {I : Type 0} → (I → Type 0) → Option (ℕ × ℕ × ℕ) → ℕ → Type 0
 NeverFull Fit None n = Unit {0}
-NeverFull {I} Fit (Some r) n = (code : I → ℕ) (N : ℕ) → Coded Fit code N → N ≤ n → r.0 ≢ full_number
+NeverFull {I} Fit (Some r) n = (code : I → ℕ) (N : ℕ) → Coded Fit code N → N ≤ n → r.0 ≢ 2
 
 -- no two of the stored items are the same
 abbrev pub NoItemTwice : {I : Type 0} → Option (ℕ × ℕ × ℕ) → List (Slot I) → Type 0
@@ -82,4 +82,4 @@ NoItemTwice (Some r) later = Distinct (items (take r.2 later))
 -- after passed none of the stored items waits
 abbrev pub NoneWaits : {I : Type 0} → Option (ℕ × ℕ × ℕ) → List (Slot I) → Type 0
 NoneWaits None later = Unit {0}
-NoneWaits {I} (Some r) later = r.0 ≡ passed_number → All (λ (x : Slot I). waits x.mark ≡ false) (take r.2 later)
+NoneWaits {I} (Some r) later = r.0 ≡ 0 → All (λ (x : Slot I). waits x.mark ≡ false) (take r.2 later)

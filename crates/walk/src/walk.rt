@@ -1,8 +1,8 @@
-ghost use Rattle.std.specs.Prelude.{◌≡◌, ◌≤◌, ◌++◌, length, take, drop};
+ghost use Rattle.std.specs.Prelude.{◌≡◌, ◌≤◌, min, ◌++◌, length, take, drop};
 ghost use Rattle.walk.specs.Kinds.{Facts, Transitive};
 ghost use Rattle.walk.specs.Walks.{pick, walk as walk_of};
 ghost use Rattle.walk.specs.Progress.{chosen as chosen_of, marked as marked_of, Ends};
-ghost use Rattle.walk.specs.Answers.{usable_of, usable as usable_slots, Walked};
+ghost use Rattle.walk.specs.Answers.{usable as usable_slots, Walked};
 ghost use Rattle.walk.specs.Statements.{Means, SameWithMore, NeverFull, NoItemTwice, NoneWaits};
 
 use crate::offer::{Ending, Progress, expand, offer_fan};
@@ -53,7 +53,7 @@ fn settle<S: Search>(search: &S, slots: &mut [Slot<S::Item>], usable: usize) -> 
 
 /// How many of so many slots are usable: the first 4,096, or all where there are fewer.
 pub fn usable(len: usize) -> usize
-    ensures { result ≡ usable_of len }
+    ensures { result ≡ min 4096 len }
 {
     if len < 4096 { len } else { 4096 }
 }
