@@ -29,7 +29,7 @@ invariant_of-self c =
     let k = c.in_ok-place.place in
     let h = c.in_ok-place.ensures in
     let e = c.without.ensures.taken (omega (arith, h, c.args.self.now.few)) in
-    let l : c.without.result < 2 ^ t.count = subst (λ (x : ℕ). x < 2 ^ t.count) (sym e) (without_within (get_or t.arrows k 0) c.args.to t.count (t.within k)) in 
+    let l : c.without.result < 2 ^ t.count = subst (λ (x : ℕ). x < 2 ^ t.count) (sym e) (without_within (get_or t.arrows k 0) c.args.to t.count (t.within k)) in
     record {
       few = t.few;
       starting = t.starting;
