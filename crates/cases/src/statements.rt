@@ -1,5 +1,6 @@
 use plan::refusal::Refusal;
 use plan::table::Table;
+use script::search_statement::{SearchStatement, parse_search};
 use script::statement::{Statement, parse};
 use search::pair::Pair;
 use std::test::Fail;
@@ -7,6 +8,7 @@ use walk::slot::{Mark, Slot};
 use wording::answer::{Answer, word_answer, word_file};
 use wording::draw::draw;
 use wording::echo::echo;
+use wording::notice::{Notice, word_notice};
 use wording::slots::{word_pair_slots, word_set_slots};
 use wording::verdict::word_search;
 
@@ -84,8 +86,8 @@ fn statements_are_parsed(rt: HostRuntime) {
 fn searches_are_parsed(rt: HostRuntime) {
     assert!(rt;
         matches!(
-            parse(b"compare-plans p r same 7"),
-            Some(Statement::ComparePlans {
+            parse_search(b"compare-plans p r same 7"),
+            Some(SearchStatement::ComparePlans {
                 slots: 7,
                 bytes: 7,
                 ..
@@ -94,8 +96,8 @@ fn searches_are_parsed(rt: HostRuntime) {
     );
     assert!(rt;
         matches!(
-            parse(b"open-plan r 255 greatest 18446744073709551615 0"),
-            Some(Statement::OpenPlan {
+            parse_search(b"open-plan r 255 greatest 18446744073709551615 0"),
+            Some(SearchStatement::OpenPlan {
                 commands: 255,
                 slots: 18_446_744_073_709_551_615,
                 bytes: 0,
@@ -103,13 +105,18 @@ fn searches_are_parsed(rt: HostRuntime) {
             })
         )
     );
-    assert!(rt; matches!(parse(b"open-plan r 256 same 1"), None));
-    assert!(rt; matches!(parse(b"compare-plans p r same 18446744073709551616"), None));
-    assert!(rt; matches!(parse(b"compare-plans p r same"), None));
+    assert!(rt; matches!(parse_search(b"open-plan r 256 same 1"), None));
     assert!(rt;
         matches!(
-            parse(b"open 26 delivered 4096 4095"),
-            Some(Statement::Open {
+            parse_search(b"compare-plans p r same 18446744073709551616"),
+            None
+        )
+    );
+    assert!(rt; matches!(parse_search(b"compare-plans p r same"), None));
+    assert!(rt;
+        matches!(
+            parse_search(b"open 26 delivered 4096 4095"),
+            Some(SearchStatement::Open {
                 commands: 26,
                 slots: 4096,
                 bytes: 4095,
@@ -117,10 +124,15 @@ fn searches_are_parsed(rt: HostRuntime) {
             })
         )
     );
-    assert!(rt; matches!(parse(b"compare p r same 7"), None));
-    assert!(rt; matches!(parse(b"draw 1"), Some(Statement::DrawSide { side: 1 })));
-    assert!(rt; matches!(parse(b"release now"), None));
-    assert!(rt; matches!(parse(b"slots 1"), None));
+    assert!(rt; matches!(parse_search(b"compare p r same 7"), None));
+    assert!(rt;
+        matches!(
+            parse_search(b"draw 1"),
+            Some(SearchStatement::DrawSide { side: 1 })
+        )
+    );
+    assert!(rt; matches!(parse_search(b"release now"), None));
+    assert!(rt; matches!(parse_search(b"slots 1"), None));
 }
 
 #[test]
@@ -183,5 +195,15 @@ fn slots_are_worded(rt: HostRuntime) -> Result<(), Fail> {
     let text: &[u8] =
         b"1 stored\n  0 pair 3 {1 2} depth 1 parent 0 command 12 withdrawn\n2 stored\n  0 set {} depth 0 parent 65535 command 255 waiting\n  1 set {} depth 0 parent 65535 command 255 waiting";
     assert!(rt; out.as_slice() == text);
+    Ok(())
+}
+
+#[test]
+fn notices_are_worded(rt: HostRuntime) -> Result<(), Fail> {
+    let mut out = Vec::new(rt.alloc());
+    word_notice(&mut out, Notice::NoSearch)?;
+    out.push(b'\n')?;
+    word_notice(&mut out, Notice::Granted)?;
+    assert!(rt; out.as_slice() == b"none\ngranted".as_slice());
     Ok(())
 }

@@ -9,6 +9,7 @@ use plan::refusal::Refusal;
 use plan::table::Table;
 use std::alloc::{AllocError, Global};
 use wording::answer::{Answer, word_answer};
+use wording::notice::{Notice, word_notice};
 use wording::verdict::word_search;
 
 /// The guard of a script, the calls that were made on it, and what was answered to them, line by line.
@@ -89,7 +90,7 @@ impl Guarded {
                 to,
             } => word_outcome(&mut text, self.guard.lift(side, from, command, to))?,
             Call::Release => match self.guard.release() {
-                Ok(()) => word_answer(&mut text, Answer::Granted)?,
+                Ok(()) => word_notice(&mut text, Notice::Granted)?,
                 Err(refusal) => word_answer(&mut text, Answer::Refused(refusal))?,
             },
             Call::Compare { .. } | Call::Open { .. } => word_answer(&mut text, Answer::Malformed)?,
@@ -180,7 +181,7 @@ fn word_told(out: &mut Vec<u8>, answer: &Told) -> Result<(), AllocError> {
             stored,
             run,
         } => word_search(out, (*verdict, *length, *stored), run),
-        Told::Granted => word_answer(out, Answer::Granted),
+        Told::Granted => word_notice(out, Notice::Granted),
         Told::Refused(refusal) => word_answer(out, Answer::Refused(*refusal)),
     }
 }

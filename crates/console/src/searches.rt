@@ -5,6 +5,7 @@ use std::alloc::{AllocError, Global};
 use walk::slot::{Mark, Slot};
 use walk::walk::usable;
 use wording::answer::{Answer, word_answer};
+use wording::notice::{Notice, word_notice};
 use wording::slots::{word_pair_slots, word_set_slots};
 use wording::verdict::word_search;
 
@@ -102,7 +103,7 @@ impl Stored {
     /// Answers the slots.
     pub(crate) fn show(&self, out: &mut Vec<u8>) -> Result<(), AllocError> {
         match self {
-            Stored::Nothing => word_answer(out, Answer::NoSearch),
+            Stored::Nothing => word_notice(out, Notice::NoSearch),
             Stored::Pairs(slots) => word_pair_slots(out, slots.as_slice()),
             Stored::Sets(slots) => word_set_slots(out, slots.as_slice()),
         }

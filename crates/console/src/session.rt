@@ -12,6 +12,7 @@ use plan::table::Table;
 use script::hex::decode;
 use script::order_name::OrderName;
 use script::pairs::pair_bytes;
+use script::search_statement::{SearchStatement, parse_search};
 use script::statement::{Statement, is_passed_over, parse};
 use search::compare::compare;
 use search::open::open;
@@ -67,7 +68,10 @@ impl Session {
             }
             None => {
                 out.push(b' ')?;
-                word_answer(out, Answer::Malformed)?;
+                match parse_search(line) {
+                    Some(statement) => self.perform_search(heap, statement, out)?,
+                    None => word_answer(out, Answer::Malformed)?,
+                }
             }
         }
         out.push(b'\n')?;
@@ -91,18 +95,10 @@ impl Session {
         match statement {
             Statement::Plan { name, hex } => self.plans.bind(heap, name, hex, out),
             Statement::Rewrite { name } => self.plans.rewrite(heap, name, out),
-            Statement::Write { .. }
-            | Statement::ShowSide { .. }
-            | Statement::ShowPlan { .. }
-            | Statement::DrawSide { .. }
-            | Statement::DrawPlan { .. } => self.perform_view(heap, statement, out),
-            Statement::Pairs { .. }
-            | Statement::Deliver { .. }
-            | Statement::Rank
-            | Statement::RankPlans { .. }
-            | Statement::Test { .. }
-            | Statement::TestPlans { .. } => self.perform_order(heap, statement, out),
-            _ => self.perform_search(heap, statement, out),
+            Statement::Write { .. } | Statement::ShowSide { .. } | Statement::ShowPlan { .. } => {
+                self.perform_view(heap, statement, out)
+            }
+            _ => self.perform_order(heap, statement, out),
         }
     }
 
@@ -122,16 +118,8 @@ impl Session {
                 Ok(table) => show(out, table),
                 Err(refusal) => word_answer(out, Answer::Refused(refusal)),
             },
-            Statement::DrawSide { side } => match self.guarded.side(side) {
-                Ok(table) => draw(out, table),
-                Err(refusal) => word_answer(out, Answer::Refused(refusal)),
-            },
             Statement::ShowPlan { name } => match self.plans.find(name) {
                 Some(plan) => show(out, &plan),
-                None => word_answer(out, Answer::UnknownPlan),
-            },
-            Statement::DrawPlan { name } => match self.plans.find(name) {
-                Some(plan) => draw(out, &plan),
                 None => word_answer(out, Answer::UnknownPlan),
             },
             _ => word_answer(out, Answer::Malformed),
@@ -163,15 +151,15 @@ impl Session {
         }
     }
 
-    /// Performs a statement about searches.
+    /// Performs a statement about searches, release or pictures.
     fn perform_search(
         &mut self,
         heap: Global,
-        statement: Statement,
+        statement: SearchStatement,
         out: &mut Vec<u8>,
     ) -> Result<(), AllocError> {
         match statement {
-            Statement::Compare {
+            SearchStatement::Compare {
                 order,
                 slots,
                 bytes,
@@ -180,7 +168,7 @@ impl Session {
                 self.guarded
                     .compare(heap, terms, &self.delivered, &mut self.stored, out)
             }
-            Statement::Open {
+            SearchStatement::Open {
                 commands,
                 order,
                 slots,
@@ -196,22 +184,30 @@ impl Session {
                     out,
                 )
             }
-            Statement::ComparePlans {
+            SearchStatement::ComparePlans {
                 programme,
                 rule,
                 order,
                 slots,
                 bytes,
             } => self.compare_plans(heap, programme, rule, Terms::new(order, slots, bytes), out),
-            Statement::OpenPlan {
+            SearchStatement::OpenPlan {
                 name,
                 commands,
                 order,
                 slots,
                 bytes,
             } => self.open_plan(heap, name, commands, Terms::new(order, slots, bytes), out),
-            Statement::Slots => self.stored.show(out),
-            _ => word_answer(out, Answer::Malformed),
+            SearchStatement::Slots => self.stored.show(out),
+            SearchStatement::Release => self.guarded.work(heap, Call::Release, out),
+            SearchStatement::DrawSide { side } => match self.guarded.side(side) {
+                Ok(table) => draw(out, table),
+                Err(refusal) => word_answer(out, Answer::Refused(refusal)),
+            },
+            SearchStatement::DrawPlan { name } => match self.plans.find(name) {
+                Some(plan) => draw(out, &plan),
+                None => word_answer(out, Answer::UnknownPlan),
+            },
         }
     }
 
@@ -321,7 +317,7 @@ impl Session {
     }
 }
 
-/// The call on the guard that a statement is, where it draws or asks for release.
+/// The call on the guard that a statement is, where it draws.
 fn listed(statement: Statement) -> Option<Call> {
     match statement {
         Statement::State { side } => Some(Call::State { side }),
@@ -349,7 +345,6 @@ fn listed(statement: Statement) -> Option<Call> {
             command,
             to,
         }),
-        Statement::Release => Some(Call::Release),
         _ => None,
     }
 }

@@ -19,11 +19,11 @@ name_of w = cond (name_word w) (Some w) None
 abbrev pub hex_of : List ℕ → Option (List ℕ)
 hex_of w = cond (hex_word w) (Some w) None
 
--- a word as a side, a state or a number of commands
+-- a word as a side or a state
 abbrev pub byte_of : List ℕ → Option ℕ
 byte_of w = below 256 (decimal w)
 
--- a word as a number of bytes or slots
+-- a word as a length
 abbrev pub length_of : List ℕ → Option ℕ
 length_of w = below (2 ^ 64) (decimal w)
 
@@ -68,14 +68,14 @@ side_and_arrow ws =
     given (next byte_of ws) (λ a. given (next byte_of a.1) (λ b. given (next command_number b.1) (λ c. given (next byte_of c.1) (λ d.
     last (a.0, b.0, c.0, d.0) d.1))))
 
--- [BYTES], which is n where it is left out
-abbrev pub bytes_or : ℕ → List (List ℕ) → Option ℕ
-bytes_or n [] = Some n
-bytes_or n (w ∷ ws) = given (next length_of (w ∷ ws)) (λ a. last a.0 a.1)
+-- [BUFFERBYTES], which is 8192 where it is left out
+abbrev pub buffer_alone : List (List ℕ) → Option ℕ
+buffer_alone [] = Some 8192
+buffer_alone (w ∷ ws) = given (next length_of (w ∷ ws)) (λ a. last a.0 a.1)
 
--- SIDE [BUFFERBYTES], which is 8192 where it is left out
+-- SIDE [BUFFERBYTES]
 abbrev pub side_and_buffer : List (List ℕ) → Option (ℕ × ℕ)
-side_and_buffer ws = given (next byte_of ws) (λ a. option_map (λ n. (a.0, n)) (bytes_or 8192 a.1))
+side_and_buffer ws = given (next byte_of ws) (λ a. option_map (λ n. (a.0, n)) (buffer_alone a.1))
 
 -- HEX
 abbrev pub hex_alone : List (List ℕ) → Option (List ℕ)
@@ -93,6 +93,11 @@ order_alone ws = given (next order_of ws) (λ a. last a.0 a.1)
 abbrev pub two_names_and_order : List (List ℕ) → Option (List ℕ × List ℕ × OrderName)
 two_names_and_order ws =
     given (next name_of ws) (λ a. given (next name_of a.1) (λ b. given (next order_of b.1) (λ c. last (a.0, b.0, c.0) c.1)))
+
+-- [BYTES], which is n where it is left out
+abbrev pub bytes_or : ℕ → List (List ℕ) → Option ℕ
+bytes_or n [] = Some n
+bytes_or n (w ∷ ws) = given (next length_of (w ∷ ws)) (λ a. last a.0 a.1)
 
 -- ORDER SLOTS [RUNBYTES], which is SLOTS where it is left out
 unfoldable pub order_slots_bytes : List (List ℕ) → Option (OrderName × ℕ × ℕ)

@@ -6,3 +6,5 @@ pub mod OrderNames
 pub mod Arguments
 pub mod Statements
 pub mod Verbs
+pub mod SearchVerbs
+pub mod SearchStatements

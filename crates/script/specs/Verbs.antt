@@ -3,24 +3,14 @@ use Rattle.std.specs.Prelude.{ℕ, Bool, cond, List, Some, None, codes, Option}
 use Prim.Native.String.{String}
 use Rattle.std.specs.Str.{bytes_eq}
 use Rattle.script.specs.declared.verb.Verb.{Verb}
-use Rattle.script.specs.declared.verb.Verb.TheVariants.{Plan, Rewrite, State, Start, End, Arrow, Lift, Write, Show, Pairs, Deliver, Rank, RankPlans, Test, TestPlans, ComparePlans, OpenPlan, Slots, Compare, Open, Release, Draw}
+use Rattle.script.specs.declared.verb.Verb.TheVariants.{Plan, Rewrite, State, Start, End, Arrow, Lift, Write, Show, Pairs, Deliver, Rank, RankPlans, Test, TestPlans}
 
 -- the verb where the word is its text, else what the other verbs give
 abbrev pub spelt : List ℕ → String → Verb → Option Verb → Option Verb
 spelt w text verb others = cond (bytes_eq w (codes text)) (Some verb) others
 
--- the verb of a statement about searches and what they release that a word is, if it is one
-abbrev pub search_verb_of : List ℕ → Option Verb
-search_verb_of w =
-    spelt w "compare-plans" ComparePlans
-    (spelt w "open-plan" OpenPlan
-    (spelt w "slots" Slots
-    (spelt w "compare" Compare
-    (spelt w "open" Open
-    (spelt w "release" Release
-    None)))))
-
--- the verb of a statement about orders that a word is, else one about searches
+-- the verb that a word is, if it is one
+-- of a statement about orders
 abbrev pub order_verb_of : List ℕ → Option Verb
 order_verb_of w =
     spelt w "pairs" Pairs
@@ -29,9 +19,8 @@ order_verb_of w =
     (spelt w "rank-plans" RankPlans
     (spelt w "test" Test
     (spelt w "test-plans" TestPlans
-    (search_verb_of w))))))
+    None)))))
 
--- the verb that a word is, if it is one
 abbrev pub verb_of : List ℕ → Option Verb
 verb_of w =
     spelt w "plan" Plan
@@ -43,5 +32,4 @@ verb_of w =
     (spelt w "lift" Lift
     (spelt w "write" Write
     (spelt w "show" Show
-    (spelt w "draw" Draw
-    (order_verb_of w))))))))))
+    (order_verb_of w)))))))))

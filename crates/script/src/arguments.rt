@@ -3,7 +3,7 @@ ghost use Rattle.std.specs.Option.{option_map};
 ghost use Rattle.script.specs.Words.{words};
 ghost use Rattle.script.specs.Numbers.{command_number};
 ghost use Rattle.script.specs.OrderNames.{order_of};
-ghost use Rattle.script.specs.Arguments.{name_word, name_of, hex_of, byte_of, length_of, next, no_words, name_alone, name_and_hex, side_alone, side_and_state, side_and_arrow, bytes_or, side_and_buffer, hex_alone, two_names, order_alone, two_names_and_order, order_slots_bytes, two_names_and_search, count_and_search, name_count_and_search};
+ghost use Rattle.script.specs.Arguments.{name_word, name_of, hex_of, byte_of, length_of, next, no_words, name_alone, name_and_hex, side_alone, side_and_state, side_and_arrow, buffer_alone, side_and_buffer, hex_alone, two_names, order_alone, two_names_and_order, bytes_or, order_slots_bytes, two_names_and_search, count_and_search, name_count_and_search};
 
 use crate::hex::is_hex;
 use crate::numbers::{byte, command, length};
@@ -129,25 +129,25 @@ pub(crate) fn side_and_arrow(text: &[u8]) -> Option<(u8, u8, u8, u8)>
     }
 }
 
-/// A number of bytes, which is `otherwise` where it is left out.
-fn bytes_or(text: &[u8], otherwise: usize) -> Option<usize>
-    ensures { result ≡ bytes_or otherwise (words text.now) }
+/// The length of a buffer, which is 8192 where it is left out.
+fn buffer_alone(text: &[u8]) -> Option<usize>
+    ensures { result ≡ buffer_alone (words text.now) }
 {
     match first_word(text) {
-        None => Some(otherwise),
+        None => Some(8192),
         Some((word, rest)) => {
-            let bytes = length(word)?;
-            if is_end(rest) { Some(bytes) } else { None }
+            let buffer = length(word)?;
+            if is_end(rest) { Some(buffer) } else { None }
         }
     }
 }
 
-/// A side and the length of a buffer, which is 8192 where it is left out.
+/// A side and the length of a buffer.
 pub(crate) fn side_and_buffer(text: &[u8]) -> Option<(u8, usize)>
     ensures { result ≡ side_and_buffer (words text.now) }
 {
     let (side, rest) = next_byte(text)?;
-    Some((side, bytes_or(rest, 8192)?))
+    Some((side, buffer_alone(rest)?))
 }
 
 /// The first word as the name of an order, and what follows it.
@@ -198,6 +198,19 @@ pub(crate) fn two_names_and_order(text: &[u8]) -> Option<(&[u8], &[u8], OrderNam
         Some((first, second, order))
     } else {
         None
+    }
+}
+
+/// A number of bytes, which is `otherwise` where it is left out.
+fn bytes_or(text: &[u8], otherwise: usize) -> Option<usize>
+    ensures { result ≡ bytes_or otherwise (words text.now) }
+{
+    match first_word(text) {
+        None => Some(otherwise),
+        Some((word, rest)) => {
+            let bytes = length(word)?;
+            if is_end(rest) { Some(bytes) } else { None }
+        }
     }
 }
 

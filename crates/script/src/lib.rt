@@ -6,6 +6,8 @@ pub mod hex;
 pub mod numbers;
 pub mod order_name;
 pub mod pairs;
+pub mod search_statement;
+mod search_verb;
 pub mod statement;
 mod verb;
 pub mod words;

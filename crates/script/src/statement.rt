@@ -1,12 +1,11 @@
 ghost use Rattle.std.specs.Prelude.{◌≡◌};
 ghost use Rattle.std.specs.Option.{option_map};
 ghost use Rattle.script.specs.Words.{words};
-ghost use Rattle.script.specs.Statements.{said, passed_over, shown_of, drawn_of, behind, statement};
+ghost use Rattle.script.specs.Statements.{said, passed_over, shown_of, behind, statement};
 
 use crate::arguments::{
-    count_and_search, hex_alone, is_end, is_name, name_alone, name_and_hex, name_count_and_search,
-    order_alone, order_slots_bytes, side_alone, side_and_arrow, side_and_buffer, side_and_state,
-    two_names, two_names_and_order, two_names_and_search,
+    hex_alone, is_end, is_name, name_alone, name_and_hex, order_alone, side_alone, side_and_arrow,
+    side_and_buffer, side_and_state, two_names, two_names_and_order,
 };
 use crate::numbers::byte;
 use crate::order_name::OrderName;
@@ -91,47 +90,6 @@ pub enum Statement<'a> {
         programme: &'a [u8],
         rule: &'a [u8],
         order: OrderName,
-    },
-    /// The comparison of two named plans by an order, with so many slots and bytes for the run.
-    ComparePlans {
-        programme: &'a [u8],
-        rule: &'a [u8],
-        order: OrderName,
-        slots: usize,
-        bytes: usize,
-    },
-    /// Whether the named plan permits every run of so many commands.
-    OpenPlan {
-        name: &'a [u8],
-        commands: u8,
-        order: OrderName,
-        slots: usize,
-        bytes: usize,
-    },
-    /// What the last search stored.
-    Slots,
-    /// The comparison of the two sides by an order, with so many slots and bytes for the run.
-    Compare {
-        order: OrderName,
-        slots: usize,
-        bytes: usize,
-    },
-    /// Whether the rule permits every run of so many commands.
-    Open {
-        commands: u8,
-        order: OrderName,
-        slots: usize,
-        bytes: usize,
-    },
-    /// The release of the valves.
-    Release,
-    /// The named plan, as a picture.
-    DrawPlan {
-        name: &'a [u8],
-    },
-    /// The side, as a picture.
-    DrawSide {
-        side: u8,
     },
 }
 
@@ -238,25 +196,6 @@ fn show(text: &[u8]) -> Option<Statement<'_>>
     if is_end(rest) { Some(statement) } else { None }
 }
 
-/// What to draw: the plan of a name, or a side.
-fn drawn(word: &[u8]) -> Option<Statement<'_>>
-    ensures { option_map said result ≡ drawn_of word.now }
-{
-    if is_name(word) {
-        return Some(Statement::DrawPlan { name: word });
-    }
-    Some(Statement::DrawSide { side: byte(word)? })
-}
-
-/// `draw NAME` or `draw SIDE`
-fn draw(text: &[u8]) -> Option<Statement<'_>>
-    ensures { option_map said result ≡ behind Verb.Draw (words text.now) }
-{
-    let (word, rest) = first_word(text)?;
-    let statement = drawn(word)?;
-    if is_end(rest) { Some(statement) } else { None }
-}
-
 /// `pairs P<R P<R ..`
 fn pairs(text: &[u8]) -> Option<Statement<'_>>
     ensures { option_map said result ≡ behind Verb.Pairs (words text.now) }
@@ -287,7 +226,7 @@ fn rank(text: &[u8]) -> Option<Statement<'_>>
     }
 }
 
-/// `rank_plans NAME NAME`
+/// `rank-plans NAME NAME`
 fn rank_plans(text: &[u8]) -> Option<Statement<'_>>
     ensures { option_map said result ≡ behind Verb.RankPlans (words text.now) }
 {
@@ -303,7 +242,7 @@ fn test(text: &[u8]) -> Option<Statement<'_>>
     Some(Statement::Test { order })
 }
 
-/// `test_plans NAME NAME ORDER`
+/// `test-plans NAME NAME ORDER`
 fn test_plans(text: &[u8]) -> Option<Statement<'_>>
     ensures { option_map said result ≡ behind Verb.TestPlans (words text.now) }
 {
@@ -313,81 +252,6 @@ fn test_plans(text: &[u8]) -> Option<Statement<'_>>
         rule,
         order,
     })
-}
-
-/// `compare_plans NAME NAME ORDER SLOTS [RUNBYTES]`
-fn compare_plans(text: &[u8]) -> Option<Statement<'_>>
-    ensures { option_map said result ≡ behind Verb.ComparePlans (words text.now) }
-{
-    let (programme, rule, order, slots, bytes) = two_names_and_search(text)?;
-    Some(Statement::ComparePlans {
-        programme,
-        rule,
-        order,
-        slots,
-        bytes,
-    })
-}
-
-/// `open_plan NAME K ORDER SLOTS [RUNBYTES]`
-fn open_plan(text: &[u8]) -> Option<Statement<'_>>
-    ensures { option_map said result ≡ behind Verb.OpenPlan (words text.now) }
-{
-    let (name, commands, order, slots, bytes) = name_count_and_search(text)?;
-    Some(Statement::OpenPlan {
-        name,
-        commands,
-        order,
-        slots,
-        bytes,
-    })
-}
-
-/// `slots`
-fn slots(text: &[u8]) -> Option<Statement<'_>>
-    ensures { option_map said result ≡ behind Verb.Slots (words text.now) }
-{
-    if is_end(text) {
-        Some(Statement::Slots)
-    } else {
-        None
-    }
-}
-
-/// `compare ORDER SLOTS [RUNBYTES]`
-fn compare(text: &[u8]) -> Option<Statement<'_>>
-    ensures { option_map said result ≡ behind Verb.Compare (words text.now) }
-{
-    let (order, slots, bytes) = order_slots_bytes(text)?;
-    Some(Statement::Compare {
-        order,
-        slots,
-        bytes,
-    })
-}
-
-/// `open K ORDER SLOTS [RUNBYTES]`
-fn open(text: &[u8]) -> Option<Statement<'_>>
-    ensures { option_map said result ≡ behind Verb.Open (words text.now) }
-{
-    let (commands, order, slots, bytes) = count_and_search(text)?;
-    Some(Statement::Open {
-        commands,
-        order,
-        slots,
-        bytes,
-    })
-}
-
-/// `release`
-fn release(text: &[u8]) -> Option<Statement<'_>>
-    ensures { option_map said result ≡ behind Verb.Release (words text.now) }
-{
-    if is_end(text) {
-        Some(Statement::Release)
-    } else {
-        None
-    }
 }
 
 /// The statement that the line is, or nothing where it is malformed.
@@ -411,12 +275,5 @@ pub fn parse(line: &[u8]) -> Option<Statement<'_>>
         Verb::RankPlans => rank_plans(rest),
         Verb::Test => test(rest),
         Verb::TestPlans => test_plans(rest),
-        Verb::ComparePlans => compare_plans(rest),
-        Verb::OpenPlan => open_plan(rest),
-        Verb::Slots => slots(rest),
-        Verb::Compare => compare(rest),
-        Verb::Open => open(rest),
-        Verb::Release => release(rest),
-        Verb::Draw => draw(rest),
     }
 }

@@ -1,5 +1,5 @@
 ghost use Rattle.std.specs.Prelude.{◌≡◌};
-ghost use Rattle.script.specs.Verbs.{verb_of, order_verb_of, search_verb_of};
+ghost use Rattle.script.specs.Verbs.{verb_of, order_verb_of};
 
 use crate::words::is_text;
 
@@ -21,37 +21,9 @@ pub(crate) enum Verb {
     RankPlans,
     Test,
     TestPlans,
-    ComparePlans,
-    OpenPlan,
-    Slots,
-    Compare,
-    Open,
-    Release,
-    Draw,
 }
 
-/// The verb of a statement about searches and what they release that the word is, if it is one.
-fn read_search_verb(word: &[u8]) -> Option<Verb>
-    ensures { result ≡ search_verb_of word.now }
-{
-    if is_text(word, b"compare-plans") {
-        Some(Verb::ComparePlans)
-    } else if is_text(word, b"open-plan") {
-        Some(Verb::OpenPlan)
-    } else if is_text(word, b"slots") {
-        Some(Verb::Slots)
-    } else if is_text(word, b"compare") {
-        Some(Verb::Compare)
-    } else if is_text(word, b"open") {
-        Some(Verb::Open)
-    } else if is_text(word, b"release") {
-        Some(Verb::Release)
-    } else {
-        None
-    }
-}
-
-/// The verb of a statement about orders that the word is, else one about searches.
+/// The verb of a statement about orders that the word is, if it is one.
 fn read_order_verb(word: &[u8]) -> Option<Verb>
     ensures { result ≡ order_verb_of word.now }
 {
@@ -68,7 +40,7 @@ fn read_order_verb(word: &[u8]) -> Option<Verb>
     } else if is_text(word, b"test-plans") {
         Some(Verb::TestPlans)
     } else {
-        read_search_verb(word)
+        None
     }
 }
 
@@ -94,8 +66,6 @@ pub(crate) fn read_verb(word: &[u8]) -> Option<Verb>
         Some(Verb::Write)
     } else if is_text(word, b"show") {
         Some(Verb::Show)
-    } else if is_text(word, b"draw") {
-        Some(Verb::Draw)
     } else {
         read_order_verb(word)
     }

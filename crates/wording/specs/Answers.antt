@@ -58,5 +58,3 @@ answer_text (answer.Number n) = numeral n
 answer_text (answer.Refused r) = refusal_text r
 answer_text answer.Malformed = codes "malformed"
 answer_text answer.UnknownPlan = codes "unknown plan"
-answer_text answer.NoSearch = codes "none"
-answer_text answer.Granted = codes "granted"

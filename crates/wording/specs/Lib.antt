@@ -6,3 +6,4 @@ pub mod Pairs
 pub mod Verdicts
 pub mod Slots
 pub mod Draw
+pub mod Notices

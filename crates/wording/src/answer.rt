@@ -9,8 +9,7 @@ use crate::text::{push_byte, push_number, push_text};
 use plan::refusal::Refusal;
 use std::alloc::AllocError;
 
-/// What is answered to a statement, but for the bytes of a file, a plan that is shown or drawn, and what a search answers
-/// and stores.
+/// What is answered to a statement, but for the bytes of a file and a plan that is shown.
 #[derive(Clone, Copy)]
 pub enum Answer {
     /// It was done.
@@ -23,10 +22,6 @@ pub enum Answer {
     Malformed,
     /// No plan has the name.
     UnknownPlan,
-    /// There was no search yet.
-    NoSearch,
-    /// The valves are released.
-    Granted,
 }
 
 /// What the refusal means, in a few words.
@@ -122,7 +117,5 @@ pub fn word_answer(out: &mut Vec<u8>, answer: Answer) -> Result<(), AllocError>
         Answer::Refused(refusal) => push_refusal(out, &refusal),
         Answer::Malformed => push_text(out, b"malformed"),
         Answer::UnknownPlan => push_text(out, b"unknown plan"),
-        Answer::NoSearch => push_text(out, b"none"),
-        Answer::Granted => push_text(out, b"granted"),
     }
 }

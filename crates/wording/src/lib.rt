@@ -8,6 +8,7 @@ pub mod draw;
 pub mod echo;
 pub mod hex;
 mod names;
+pub mod notice;
 pub mod pairs;
 pub mod show;
 pub mod slots;
