@@ -1,9 +1,9 @@
-use Rattle.std.proofs.Common.{◌≡◌, ℕ, zero, suc, ◌+◌, ◌-◌, ◌*◌, ◌/◌, ◌%◌, ◌^◌, ◌<◌, ◌≤◌, min, max, Bool, true, false, cond, not, ◌&&◌, ◌||◌, eqb, leb, ◌⊎◌, sym, refl, ap, ◌∙◌, subst, inl, inr, ⊎_elim, mul_assoc, add-mul, pow-suc, arith, pow_pos, pow_mono, pow-add, shr-shr, shr_lt}
+use Rattle.std.proofs.Common.{◌≡◌, ℕ, zero, suc, ◌+◌, ◌-◌, ◌*◌, ◌/◌, ◌%◌, ◌^◌, ◌<◌, ◌≤◌, min, max, true, false, cond, not, ◌&&◌, ◌||◌, eqb, leb, ◌⊎◌, sym, refl, ap, ◌∙◌, subst, inl, inr, ⊎_elim, mul_assoc, add-mul, pow-suc, arith, pow_pos, pow_mono, pow-add, shr-shr, shr_lt}
 use native.Mathlib.Nat.{div_self, div-eq_of_lt}
-use lib.Count.{count_leading_zeros, count_trailing_zeros, under}
-use lib.Bits.{bit_and, bit_or, and_step, or_step, and_shr, or_shr, and_mask, and_le_l}
+use lib.Count.{count_leading_zeros, count_trailing_zeros}
+use lib.Bits.{bit_and, bit_or, and_step, or_step, and_shr, or_shr, and_le_l}
 use lib.Pow.{pow-lt, shl-shr, high, split}
-use Rattle.std.proofs.lemmas.Nat.{one_shl, mod_below, leading_top, le-div, div_below}
+use Rattle.std.proofs.lemmas.Nat.{mod_below, leading_top, le-div, div_below}
 use Rattle.std.proofs.lemmas.Bool.{cases_order, cases_eq, cases_lt, eq-eqb, ne_eqb, cond-true, cond-false, both_ways, le-leb, lt-leb}
 use Rattle.automata.specs.Sets.{has}
 

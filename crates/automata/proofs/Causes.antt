@@ -1,7 +1,7 @@
-use Rattle.std.proofs.Common.{◌≡◌, ℕ, zero, suc, ◌+◌, ◌*◌, ◌<◌, ◌≤◌, Bool, true, false, cond, not, ◌&&◌, ◌||◌, eqb, ltb, ◌⊎◌, List, [], ◌∷◌, ◌++◌, length, get_or, take, drop, sym, refl, ap, ◌∙◌, subst, ap₂, inl, inr, ⊎_elim, arith, drop_of_length-le, drop-cons}
+use Rattle.std.proofs.Common.{◌≡◌, ℕ, ◌+◌, ◌<◌, ◌≤◌, Bool, true, false, not, ◌&&◌, ◌||◌, eqb, ltb, List, [], ◌∷◌, length, get_or, drop, sym, refl, ap, ◌∙◌, subst, ⊎_elim, arith, drop_of_length-le, drop-cons}
 use Rattle.std.proofs.lemmas.Bool.{eqb-true, eqb-false, lt-ltb, ltb-true, ltb-false, or_parts, and_parts, and_from, not-false, not_from_true, cases_eq}
 use Rattle.automata.specs.Records.{head_record, start_record, end_record, arrow_record, len, kind, size}
-use Rattle.automata.specs.Reading.{limit, inside, lexb, misplaced, outside, not_above, causes, NoneHolds, FirstHolds, InOrder, last_of}
+use Rattle.automata.specs.Reading.{inside, lexb, misplaced, not_above, causes, NoneHolds}
 use Rattle.automata.proofs.Lists.{Below, below_lex}
 
 -- a record of the body, in a file of n states

@@ -1,10 +1,10 @@
 -- What drawing does to the runs that a plan permits.
-use Rattle.std.proofs.Common.{◌≡◌, ℕ, ◌-◌, ◌^◌, Bool, true, false, cond, ◌&&◌, eqb, List, [], ◌∷◌, sym, refl, ap, ◌∙◌, subst}
+use Rattle.std.proofs.Common.{◌≡◌, ℕ, ◌-◌, ◌^◌, true, ◌&&◌, eqb, List, [], ◌∷◌, sym, refl, ◌∙◌}
 use Rattle.std.proofs.lemmas.Bool.{and_parts, both_ways, cond_both}
 use Rattle.automata.specs.Sets.{has, along, without}
 use Rattle.automata.specs.Nfa.{Nfa}
 use Rattle.automata.specs.Runs.{Start, End, Arrow, Leads, Permits, Included}
-use Rattle.automata.specs.Drawing.{blank, with_state, with_start, with_end, with_arrow, without_arrow}
+use Rattle.automata.specs.Drawing.{blank, with_start, with_end, with_arrow, without_arrow}
 use Rattle.automata.proofs.Bits.{has_along, has_and, has_zero}
 
 -- what was in a set stays when one is put in, and what is left was there when one is taken out

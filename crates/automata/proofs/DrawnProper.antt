@@ -1,6 +1,6 @@
 -- Each step of drawing that nothing speaks against makes a proper plan of a proper plan.
-use Rattle.std.proofs.Common.{◌≡◌, ℕ, ◌+◌, ◌-◌, ◌^◌, ◌<◌, ◌≤◌, Bool, true, cond, ◌&&◌, eqb, sym, refl, subst, arith, pow_pos, pow_mono}
-use lib.Bits.{bit_or, bit_and, or_lt, and_le_l}
+use Rattle.std.proofs.Common.{◌≡◌, ℕ, ◌+◌, ◌-◌, ◌^◌, ◌<◌, ◌≤◌, ◌&&◌, eqb, refl, arith, pow_pos, pow_mono}
+use lib.Bits.{or_lt, and_le_l}
 use lib.Pow.{pow-lt}
 use Rattle.std.proofs.lemmas.Bool.{and_parts, cond_both, eqb-true}
 use Rattle.automata.specs.Sets.{along, without}

@@ -1,5 +1,5 @@
 -- The files of proper plans are exactly the bytes whose records are all in order.
-use Rattle.std.proofs.Common.{◌≡◌, ℕ, zero, suc, ◌+◌, ◌*◌, ◌^◌, ◌<◌, ◌≤◌, min, Bool, true, false, cond, ◌&&◌, ltb, ◌⊎◌, List, [], ◌∷◌, ◌++◌, length, get_or, drop, sym, refl, ap, ◌∙◌, subst, inl, inr, ⊎_elim, arith, get_or-take, pow_pos}
+use Rattle.std.proofs.Common.{◌≡◌, ℕ, ◌+◌, ◌^◌, ◌<◌, ◌≤◌, min, cond, ◌&&◌, ltb, ◌⊎◌, List, [], ◌∷◌, ◌++◌, length, get_or, drop, sym, refl, ap, ◌∙◌, subst, inl, inr, ⊎_elim, arith, get_or-take, pow_pos}
 use Rattle.std.proofs.lemmas.Bool.{and_from, and_left, and_right, lt-ltb, le-ltb, cond-true, cond-false, cond_both, both_ways}
 use Rattle.automata.specs.Nfa.{Nfa, Proper}
 use Rattle.automata.specs.Sets.{has, pack}
@@ -11,7 +11,7 @@ use Rattle.automata.proofs.Packs.{pack_has, pack_lt}
 use Rattle.automata.proofs.Lists.{Mem, memb_mem, mem_memb, Before, Asc, asc_same, lex_below, below_trans, below_irrefl}
 use Rattle.automata.proofs.Cuts.{joined_cut, short_cut, cut_joined, cut_cons, len_take}
 use Rattle.automata.proofs.Rows.{Row, mem_row, row_mem, asc_records}
-use Rattle.automata.proofs.Causes.{Body, later_none, head_none, Good, none_good, good_head, good_body}
+use Rattle.automata.proofs.Causes.{Body, later_none, head_none, none_good, good_head, good_body}
 
 nonempty : (n : ℕ) (z : List ℕ) → Body n z → 0 < length (drop 2 z)
 nonempty n z (Body.start s h e) = subst (λ (w : List ℕ). 0 < length (drop 2 w)) (sym e) (omega arith)

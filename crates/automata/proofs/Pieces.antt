@@ -1,10 +1,10 @@
 -- What is wrong with the record at the head of the bytes f, seen from f.
-use Rattle.std.proofs.Common.{◌≡◌, ℕ, zero, suc, ◌+◌, ◌-◌, ◌*◌, ◌<◌, ◌≤◌, min, Bool, true, false, not, ◌&&◌, ◌||◌, eqb, ltb, ◌⊎◌, List, [], ◌∷◌, length, get_or, take, drop, sym, refl, ap, ◌∙◌, subst, ap₂, inl, inr, ⊎_elim, arith, length-take, get_or-take, take-take}
+use Rattle.std.proofs.Common.{◌≡◌, ℕ, ◌+◌, ◌-◌, ◌*◌, ◌<◌, ◌≤◌, min, Bool, true, false, not, ◌&&◌, ◌||◌, eqb, ltb, ◌⊎◌, List, length, take, drop, refl, ap, ◌∙◌, ap₂, inl, inr, ⊎_elim, arith, length-take, get_or-take, take-take}
 use native.Mathlib.Nat.{sub-zero}
 use Rattle.std.proofs.lemmas.List.{drop-take}
 use Rattle.std.proofs.lemmas.Bool.{lt-ltb, le-ltb, eq-eqb, ne_eqb, or_left, or_right, or_from, not_from_true, not_from_false}
 use Rattle.automata.specs.Records.{len, kind, size}
-use Rattle.automata.specs.Reading.{piece, inside, lexb, misplaced, truncated, unknown_kind, wrong_length, outside, not_above, Cause, causes, NoneHolds, FirstHolds}
+use Rattle.automata.specs.Reading.{piece, inside, lexb, misplaced, truncated, unknown_kind, wrong_length, outside, not_above, causes, NoneHolds, FirstHolds}
 use Rattle.automata.proofs.Cuts.{len_take}
 
 module _ (f : List ℕ) where

@@ -1,11 +1,10 @@
 -- Being below the states of a set, and what dropping a state that is below another does: it keeps the runs that lead
 -- from no state of the set to an end. Each drop does, so reducing does; transitivity has no part in it.
-use Rattle.std.proofs.Common.{◌≡◌, ℕ, zero, suc, ◌+◌, ◌-◌, ◌^◌, ◌<◌, ◌≤◌, Bool, true, false, cond, not, ◌&&◌, ◌||◌, eqb, ◌↔◌, List, [], ◌∷◌, sym, refl, ap, ◌∙◌, subst, ⊎_elim, arith, pow_pos, pow_mono}
+use Rattle.std.proofs.Common.{◌≡◌, ℕ, zero, suc, ◌+◌, ◌-◌, ◌^◌, ◌<◌, ◌≤◌, Bool, true, cond, not, ◌&&◌, ◌||◌, eqb, ◌↔◌, List, [], ◌∷◌, sym, refl, ◌∙◌, subst, ⊎_elim, arith, pow_pos, pow_mono}
 use lib.Bits.{bit_and, and_le_l, and_le_r, or_lt}
 use Rattle.std.proofs.lemmas.Bool.{and_parts, and_from, or_cases, or_left, or_right, cases_eq, cases_Bool, cond_both, both_ways, not-true, not_from_false, eqb-true, eq-eqb}
 use Rattle.automata.specs.Sets.{has, without}
 use Rattle.automata.specs.Nfa.{Nfa, Proper}
-use Rattle.automata.specs.Relations.{any}
 use Rattle.automata.specs.Steps.{onward_from, onward}
 use Rattle.automata.specs.Greatest.{LeadsToEnd}
 use Rattle.automata.specs.Reducing.{every, under, all_under, spare, relieve, reduce_first, reduce, LeadsNone}

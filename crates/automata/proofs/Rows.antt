@@ -1,4 +1,4 @@
-use Rattle.std.proofs.Common.{◌≡◌, ℕ, zero, suc, ◌+◌, ◌*◌, ◌<◌, ◌≤◌, Bool, true, false, ◌⊎◌, List, [], ◌∷◌, ◌++◌, length, get_or, drop, sym, refl, ap, ◌∙◌, subst, subst₂, inl, inr, ⊎_elim, arith}
+use Rattle.std.proofs.Common.{◌≡◌, ℕ, ◌<◌, true, List, ◌++◌, sym, refl, subst, subst₂, inl, inr, ⊎_elim, arith}
 use Rattle.automata.specs.Nfa.{Nfa}
 use Rattle.automata.specs.Sets.{has}
 use Rattle.automata.specs.Records.{head_record, start_record, end_record, arrow_record}

@@ -1,9 +1,9 @@
 -- The runs that lead to an end, in each of two plans and in the two beside each other; what a lawful order does to them.
-use Rattle.std.proofs.Common.{◌≡◌, ℕ, ◌+◌, ◌-◌, ◌*◌, ◌^◌, ◌<◌, ◌≤◌, Bool, true, ◌&&◌, ◌||◌, leb, List, [], ◌∷◌, sym, refl, ap, ◌∙◌, subst, ⊎_elim, arith}
+use Rattle.std.proofs.Common.{◌≡◌, ℕ, ◌+◌, ◌-◌, ◌*◌, ◌^◌, ◌<◌, ◌≤◌, Bool, true, leb, List, [], ◌∷◌, sym, ◌∙◌, subst, ⊎_elim, arith}
 use Rattle.std.proofs.lemmas.Bool.{and_parts, or_cases, or_left, or_right, leb-true, le-leb}
 use Rattle.automata.specs.Sets.{has}
 use Rattle.automata.specs.Nfa.{Nfa, Proper}
-use Rattle.automata.specs.Runs.{End, Arrow, Leads}
+use Rattle.automata.specs.Runs.{End, Leads}
 use Rattle.automata.specs.Numbering.{exists, beside}
 use Rattle.automata.specs.Relations.{among}
 use Rattle.automata.specs.Laws.{Lawful}

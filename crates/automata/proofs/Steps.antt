@@ -1,14 +1,14 @@
 -- A set of states leads where its members lead.
-use Rattle.std.proofs.Common.{◌≡◌, ℕ, zero, suc, ◌+◌, ◌^◌, ◌<◌, ◌≤◌, Bool, true, false, cond, not, ◌&&◌, ◌||◌, eqb, ◌⊎◌, ◌↔◌, List, [], ◌∷◌, length, get_or, drop, sym, refl, ap, ◌∙◌, subst, inl, inr, ⊎_elim, add-one, arith, pow_pos}
+use Rattle.std.proofs.Common.{◌≡◌, ℕ, zero, suc, ◌+◌, ◌^◌, ◌<◌, ◌≤◌, true, false, cond, not, eqb, ◌↔◌, List, [], ◌∷◌, length, get_or, drop, sym, refl, ap, ◌∙◌, subst, ⊎_elim, add-one, arith}
 use lib.Bits.{bit_and, bit_or, or_zero_r, and_le_r}
 use lib.Count.{count_trailing_zeros}
 use Rattle.std.proofs.lemmas.List.{drop_more, drop_all}
 use Rattle.std.proofs.lemmas.Bool.{or_cases, or_left, or_right, and_parts, and_from, cond-true, cond-false, cond_both, cases_lt, cases_eq, both_ways, eqb-false, ne_eqb, not-true, not_from_false}
 use Rattle.automata.specs.Sets.{has}
 use Rattle.automata.specs.Nfa.{Nfa, Proper}
-use Rattle.automata.specs.Runs.{Start, End, Arrow, Leads, Permits}
+use Rattle.automata.specs.Runs.{Arrow, Leads, Permits}
 use Rattle.automata.specs.Steps.{onward_from, onward, led_to}
-use Rattle.automata.proofs.Bits.{has_or, has_and, has_zero, has_small, trailing_has}
+use Rattle.automata.proofs.Bits.{has_or, has_and, has_zero, trailing_has}
 
 -- some member below n leads to t
 Via : Nfa → ℕ → ℕ → ℕ → ℕ → Type 0

@@ -1,7 +1,7 @@
 -- How the plan of a file is read off its bytes without reading them all: the starts and ends stand in front, in records
 -- of five bytes, and the arrows behind them, in records of seven bytes that ascend, so that they are found by halving.
 -- Of any bytes it says some proper plan, and of the file of a plan that plan.
-use Rattle.std.specs.Prelude.{ℕ, zero, suc, ◌+◌, ◌-◌, ◌*◌, ◌/◌, min, Bool, true, false, cond, ◌&&◌, ◌||◌, List, [], ◌∷◌, length, take, drop, ◌==◌, nat_le, nat_lt, slice_index}
+use Rattle.std.specs.Prelude.{ℕ, zero, suc, ◌+◌, ◌-◌, ◌*◌, ◌/◌, Bool, true, false, cond, ◌&&◌, ◌||◌, List, [], ◌∷◌, length, take, drop, ◌==◌, nat_le, nat_lt, slice_index}
 use Rattle.automata.specs.Sets.{pack}
 use Rattle.automata.specs.Nfa.{Nfa}
 use Rattle.automata.specs.Records.{start_record, end_record, arrow_record}

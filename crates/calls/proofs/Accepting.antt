@@ -1,6 +1,6 @@
 -- What accepted calls keep: both plans are proper; and where they only add to the rule or lift from the programme, the
 -- rule goes on to permit every run of the programme.
-use Rattle.std.proofs.Common.{◌≡◌, ℕ, zero, suc, ◌<◌, Bool, true, false, leb, List, sym, refl, subst, arith}
+use Rattle.std.proofs.Common.{◌≡◌, ℕ, zero, suc, ◌<◌, Bool, true, false, List, sym, refl, subst}
 use mathlib.Core.Option.{Option, none, some}
 use Rattle.std.proofs.lemmas.Bool.{leb-false}
 use Rattle.automata.specs.Nfa.{Nfa, Proper}

@@ -1,5 +1,5 @@
 -- The guard before each place of a list of calls: its plans, its answer and its standing.
-use Rattle.std.proofs.Common.{◌≡◌, ℕ, zero, suc, ◌<◌, ◌≤◌, Bool, ◌⊎◌, List, length, get_or, take, sym, refl, ap, ◌∙◌, subst, inl, inr, arith}
+use Rattle.std.proofs.Common.{◌≡◌, ℕ, zero, suc, ◌<◌, ◌≤◌, Bool, ◌⊎◌, List, length, take, sym, refl, ap, ◌∙◌, subst, inl, inr, arith}
 use mathlib.Core.Option.{Option, none, some}
 use Rattle.std.proofs.lemmas.Bool.{cases_eq}
 use Rattle.walk.specs.Walks.{Outcome, passed, failed, full, walk}
@@ -11,9 +11,9 @@ use Rattle.calls.specs.declared.drawing.Drawing.{Drawing}
 use Rattle.calls.specs.declared.standing.Standing.{Standing}
 use Rattle.calls.specs.declared.standing.Standing.TheVariants.{Drawn, Passed, Failed, Full}
 use Rattle.calls.specs.Calls.{Question, Compare, Open, Call, Draw, Search, Release, Found, Answer, done, found, Loosens}
-use Rattle.calls.specs.Plans.{Plans, undrawn, refusal, left_by, after_call, fold, drawn}
-use Rattle.calls.specs.Guards.{Guard, blank_guard, kind_of, Asks, enough, walked, by_verdict, stood, told, taken, step, answers}
-use Rattle.calls.specs.Places.{call, drawn_at, Accepted, DrawingAt, SearchAt, Quiet, LastDrawn, answer, VerdictAt, LastVerdict, Stands}
+use Rattle.calls.specs.Plans.{Plans, undrawn, refusal, after_call, fold}
+use Rattle.calls.specs.Guards.{Guard, blank_guard, kind_of, Asks, enough, walked, by_verdict, told, taken, answers}
+use Rattle.calls.specs.Places.{call, drawn_at, Accepted, DrawingAt, SearchAt, Quiet, answer, VerdictAt, LastVerdict, Stands}
 use Rattle.calls.proofs.Folds.{move, fold_next, answers_at, fold_plans}
 use Rattle.calls.proofs.Telling.{found_same, none_some}
 use Rattle.calls.proofs.Accepting.{drawn_proper, Kept, left_kept}

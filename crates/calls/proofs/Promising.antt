@@ -1,13 +1,11 @@
 -- Every list of calls is answered as promised.
-use Rattle.std.proofs.Common.{◌≡◌, ℕ, suc, ◌<◌, ◌≤◌, Bool, ◌↔◌, List, [], ◌∷◌, ◌++◌, length, take, sym, refl, ap, ◌∙◌, subst, arith}
-use Rattle.walk.specs.Answers.{usable_of}
+use Rattle.std.proofs.Common.{◌≡◌, ℕ, suc, ◌<◌, ◌≤◌, Bool, List, [], ◌∷◌, ◌++◌, length, take, sym, ap, ◌∙◌, subst, arith}
 use Rattle.automata.proofs.Tested.{tested_lawful, lawful_tested, tested_some}
 use Rattle.search.proofs.Found.{every_comparison, every_opening}
-use Rattle.calls.specs.declared.standing.Standing.TheVariants.{Passed}
-use Rattle.calls.specs.Calls.{Question, Call, Draw, Search, Release, Found, Answer, found, granted}
+use Rattle.calls.specs.Calls.{Question, Call, Draw, Release, Found, Answer, found, granted}
 use Rattle.calls.specs.Plans.{Plans, refusal}
 use Rattle.calls.specs.Guards.{Guard, blank_guard, walked, released, taken, step, answers_from, answers, after}
-use Rattle.calls.specs.Places.{call, drawn_at, SearchAt, answer, LastVerdict, Stands}
+use Rattle.calls.specs.Places.{call, drawn_at, SearchAt, LastVerdict, Stands}
 use Rattle.calls.specs.Promise.{ListPromise, EveryOrder, WholePromise, Promised}
 use Rattle.calls.proofs.Folds.{move, fold_push, answers_length, answers_push}
 use Rattle.calls.proofs.Telling.{drawing_done, taken_refuses, released_granted}

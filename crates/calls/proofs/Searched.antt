@@ -1,18 +1,16 @@
 -- What an accepted search of proper plans finds.
-use Rattle.std.proofs.Common.{◌≡◌, ℕ, ◌≤◌, Bool, true, false, sym, refl, ap}
+use Rattle.std.proofs.Common.{◌≡◌, ℕ, ◌≤◌, Bool, sym, ap}
 use mathlib.Core.Option.{Option, none, some}
-use Rattle.walk.specs.Walks.{Outcome, walk}
+use Rattle.walk.specs.Walks.{Outcome}
 use Rattle.walk.specs.Answers.{usable_of, full_number}
-use Rattle.automata.specs.Nfa.{Nfa}
 use Rattle.automata.specs.Drawing.{Report, blank}
-use Rattle.automata.specs.Testing.{otherwise, when_so, tested}
-use Rattle.automata.specs.Laws.{Lawful}
+use Rattle.automata.specs.Testing.{otherwise, tested}
 use Rattle.automata.proofs.DrawnProper.{blank_proper}
 use Rattle.automata.proofs.Tested.{lawful_tested}
 use Rattle.search.specs.Searching.{Searches}
 use Rattle.search.specs.Answering.{buffer_refusal, count_refusal}
 use Rattle.search.proofs.Found.{every_comparison, every_opening}
-use Rattle.calls.specs.Calls.{Question, Compare, Open, Found}
+use Rattle.calls.specs.Calls.{Question, Compare, Open}
 use Rattle.calls.specs.Plans.{Plans, search_refusal}
 use Rattle.calls.specs.Guards.{Item, kind_of, Asks, enough, found_in, walked}
 use Rattle.calls.proofs.Telling.{none_some}

@@ -1,5 +1,5 @@
 -- Calls and answers told apart.
-use Rattle.std.proofs.Common.{◌≡◌, ℕ, ◌↔◌, sym, refl, ap, subst, arith}
+use Rattle.std.proofs.Common.{◌≡◌, ℕ, ◌↔◌, refl, arith}
 use mathlib.Core.Option.{Option, none, some}
 use Rattle.automata.specs.Nfa.{Nfa}
 use Rattle.automata.specs.Drawing.{Report}
@@ -7,7 +7,7 @@ use Rattle.calls.specs.declared.drawing.Drawing.{Drawing}
 use Rattle.calls.specs.declared.drawing.Drawing.TheVariants.{State, Start, End, Arrow, Lift}
 use Rattle.calls.specs.declared.standing.Standing.{Standing}
 use Rattle.calls.specs.declared.standing.Standing.TheVariants.{Drawn, Passed, Failed, Full}
-use Rattle.calls.specs.Calls.{Call, Draw, Search, Release, Found, Answer, numbered, done, found, granted, refused}
+use Rattle.calls.specs.Calls.{Call, Draw, Search, Release, Found, done, found, granted, refused}
 use Rattle.calls.specs.Guards.{Guard, released, drawing_answer, told, taken}
 
 pub found_same : (f g : Found) → found f ≡ found g → f ≡ g

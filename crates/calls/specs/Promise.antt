@@ -1,6 +1,6 @@
 -- What is promised: of every search, of every order, and of every list of calls on a blank guard.
 use Rattle.std.specs.Prelude.{◌≡◌, ℕ, ◌<◌, ◌≤◌, Bool, ◌↔◌, List, [], ◌∷◌, ◌++◌, length, ◌≢◌}
-use Rattle.std.proofs.Math.Option.{Option, none, some}
+use Rattle.std.proofs.Math.Option.{none, some}
 use Rattle.walk.specs.Answers.{usable_of, passed_number, failed_number, full_number}
 use Rattle.automata.specs.Nfa.{Nfa, Proper}
 use Rattle.automata.specs.Runs.{Included}
@@ -15,7 +15,7 @@ use Rattle.calls.specs.declared.drawing.Drawing.TheVariants.{State}
 use Rattle.calls.specs.declared.standing.Standing.{Standing}
 use Rattle.calls.specs.declared.standing.Standing.TheVariants.{Passed}
 use Rattle.calls.specs.Calls.{Question, Call, Release, Found, Answer, numbered, done, found, granted, refused, Loosens}
-use Rattle.calls.specs.Plans.{Plans, side, refusal}
+use Rattle.calls.specs.Plans.{side, refusal}
 use Rattle.calls.specs.Guards.{Guard, Asks, enough, walked, released, answers, after}
 use Rattle.calls.specs.Places.{call, drawn_at, DrawingAt, SearchAt, answer, VerdictAt, Stands}
 

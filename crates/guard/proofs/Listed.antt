@@ -1,6 +1,6 @@
 -- A listed search is made over no more slots and bytes than can be used, which changes nothing; and behind the run of
 -- its answer there are zeros.
-use Rattle.std.proofs.Common.{◌≡◌, ℕ, ◌+◌, ◌-◌, ◌<◌, ◌≤◌, min, Bool, ltb, List, [], ◌++◌, length, take, drop, replicate, IfOk, Ok, Err, Result, sym, refl, ap, ◌∙◌, arith, length-append, length-take}
+use Rattle.std.proofs.Common.{◌≡◌, ℕ, ◌-◌, ◌≤◌, Bool, ltb, List, [], ◌++◌, length, take, drop, replicate, IfOk, Ok, Err, Result, sym, refl, ap, ◌∙◌, arith, length-append, length-take}
 use mathlib.Core.Option.{Option, none, some}
 use lib.ListN.{length-replicate}
 use Rattle.std.proofs.lemmas.Bool.{ltb-true, lt-ltb}
@@ -14,7 +14,7 @@ use Rattle.automata.specs.Testing.{otherwise, when_so, tested}
 use Rattle.automata.proofs.Elements.{same_bool}
 use Rattle.plan.specs.declared.refusal.Refusal.{Refusal}
 use Rattle.search.specs.Answering.{count_refusal, Searched}
-use Rattle.calls.specs.Calls.{Question, Compare, Open, Call, Search, Answer, found}
+use Rattle.calls.specs.Calls.{Question, Compare, Open, Search, Answer, found}
 use Rattle.calls.specs.Plans.{Plans, search_refusal}
 use Rattle.calls.specs.Guards.{Guard, Item, kind_of, found_in, stood, taken, step}
 use Rattle.guard.specs.Meanings.{as_found}

@@ -1,12 +1,12 @@
 -- A list of calls worked through, turn by turn.
-use Rattle.std.proofs.Common.{◌≡◌, ℕ, zero, suc, ◌+◌, ◌<◌, ◌≤◌, min, List, [], ◌∷◌, ◌++◌, map, length, get_or, take, drop, set, sym, refl, ap, ◌∙◌, subst, arith, length-set}
+use Rattle.std.proofs.Common.{◌≡◌, ℕ, suc, ◌+◌, ◌<◌, ◌≤◌, List, [], ◌∷◌, ◌++◌, map, length, get_or, take, drop, set, sym, refl, ap, ◌∙◌, subst, arith, length-set}
 use lib.ListN.{length-map}
 use Rattle.std.proofs.lemmas.List.{get_or-map, map_push, take_more_set, drop-set-lt, drop-drop}
 use Rattle.walk.specs.Lists.{All}
 use Rattle.walk.proofs.Lists.{all_append}
 use Rattle.calls.specs.Calls as calls
 use Rattle.calls.specs.Plans.{fold}
-use Rattle.calls.specs.Guards.{Guard, blank_guard, step, answers_from, answers}
+use Rattle.calls.specs.Guards.{Guard, blank_guard, step, answers_from}
 use Rattle.calls.specs.Promise.{WholePromise}
 use Rattle.calls.proofs.Folds.{move, fold_next, answers_next}
 use Rattle.calls.proofs.Promising.{whole_promise}

@@ -1,5 +1,5 @@
 -- The guard of the code, its calls and its answers, read as those of the definitions.
-use Rattle.std.specs.Prelude.{◌≡◌, ℕ, ◌-◌, List, [], ◌∷◌, take, drop, replicate, Ok, Err, Result}
+use Rattle.std.specs.Prelude.{◌≡◌, ℕ, ◌-◌, List, take, drop, replicate, Ok, Err, Result}
 use Rattle.plan.specs.declared.refusal.Refusal.{Refusal}
 use Rattle.plan.specs.Refusals.{report_of}
 use Rattle.plan.specs.Tables.{drawn}

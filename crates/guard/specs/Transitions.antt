@@ -1,5 +1,5 @@
 -- What follows of the standing and a call that nothing speaks against.
-use Rattle.std.specs.Prelude.{ℕ, Ok, Err, Result}
+use Rattle.std.specs.Prelude.{Ok, Err, Result}
 use Rattle.plan.specs.declared.refusal.Refusal.{Refusal}
 use Rattle.plan.specs.declared.refusal.Refusal.TheVariants.{NotCompared, ComparisonFailed, ComparisonFull}
 use Rattle.calls.specs.declared.standing.Standing.{Standing}

@@ -1,9 +1,9 @@
 -- Parts put into a buffer one behind the other.
-use Rattle.std.proofs.Common.{◌≡◌, ℕ, zero, suc, ◌+◌, ◌-◌, ◌<◌, ◌≤◌, Bool, true, false, cond, List, [], ◌∷◌, ◌++◌, length, take, drop, sym, refl, ap, ◌∙◌, subst, ap₂, append_assoc, append-nil, add-one, arith, length-append, take-append-drop, length-take, drop-drop, take_at}
+use Rattle.std.proofs.Common.{◌≡◌, ℕ, ◌+◌, ◌-◌, Bool, true, false, List, [], ◌∷◌, ◌++◌, length, take, drop, sym, refl, ap, ◌∙◌, subst, ap₂, append_assoc, append-nil, add-one, arith, length-append, take-append-drop, length-take, drop-drop, take_at}
 use lib.Seq.{drop-append-add}
 use Rattle.automata.specs.Nfa.{Nfa}
 use Rattle.automata.specs.Sets.{has}
-use Rattle.automata.specs.Records.{head_record, start_record, end_record, arrow_record}
+use Rattle.automata.specs.Records.{head_record, start_record, end_record}
 use Rattle.automata.specs.Files.{records, file, joined, each, when, arrows_from, arrows}
 use Rattle.automata.proofs.Fixed.{joined_append}
 use borrow.Rule.Slice.PartMut.{put_mid}

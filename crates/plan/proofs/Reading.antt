@@ -1,7 +1,7 @@
 -- What the reader's verdict on bytes comes to.
 use Rattle.std.proofs.Common.{◌≡◌, ℕ, ◌<◌, List, [], ◌∷◌, length, sym, ap, ◌∙◌, subst}
-use Rattle.automata.specs.Nfa.{Nfa, Proper}
-use Rattle.automata.specs.Files.{file, FileOf}
+use Rattle.automata.specs.Nfa.{Nfa}
+use Rattle.automata.specs.Files.{FileOf}
 use Rattle.automata.specs.Reading.{cut, stated_count, InOrder, Refused}
 use Rattle.automata.specs.Lookup.{viewed}
 use Rattle.automata.proofs.Exact.{in_order_file, refused_no_file}

@@ -1,9 +1,9 @@
 -- What the writer's parts come to.
-use Rattle.std.proofs.Common.{◌≡◌, ℕ, ◌+◌, ◌*◌, ◌^◌, ◌<◌, ◌≤◌, ltb, List, [], ◌∷◌, ◌++◌, length, get_or, take, drop, sym, refl, ap, ◌∙◌, subst, arith, take_at, pow_pos}
+use Rattle.std.proofs.Common.{◌≡◌, ℕ, ◌+◌, ◌*◌, ◌^◌, ◌<◌, ◌≤◌, ltb, List, [], ◌∷◌, ◌++◌, length, get_or, take, drop, sym, refl, ap, ◌∙◌, arith, take_at, pow_pos}
 use Rattle.std.proofs.lemmas.Bool.{ltb-true, le-ltb, cond-false, cond_both}
 use Rattle.automata.specs.Nfa.{Nfa, Proper}
-use Rattle.automata.specs.Files.{file, FileOf}
-use Rattle.plan.specs.Answers.{Written, TooShort, ReadAs}
+use Rattle.automata.specs.Files.{file}
+use Rattle.plan.specs.Answers.{Written, TooShort}
 use Rattle.plan.specs.Buffers.{Put}
 use Rattle.plan.specs.Tables.{drawn}
 use Rattle.plan.specs.declared.table.Table.{Table}

@@ -1,8 +1,8 @@
 -- Bytes in hexadecimal: the steps of reading and writing, and that reading gives back what was written.
-use Rattle.std.proofs.Common.{◌≡◌, ℕ, ◌+◌, ◌-◌, ◌*◌, ◌/◌, ◌%◌, ◌<◌, ◌≤◌, Bool, true, false, cond, ◌&&◌, ◌||◌, eqb, ltb, leb, List, [], ◌∷◌, ◌++◌, length, get_or, take, drop, sym, refl, ap, ◌∙◌, ap₂, arith}
+use Rattle.std.proofs.Common.{◌≡◌, ℕ, ◌+◌, ◌*◌, ◌/◌, ◌%◌, ◌<◌, ◌≤◌, Bool, true, false, ◌&&◌, ◌||◌, eqb, ltb, List, [], ◌∷◌, ◌++◌, length, get_or, take, drop, refl, ap, ◌∙◌, ap₂, arith}
 use Rattle.std.specs.List.{AllByRecursion as All}
-use Rattle.std.proofs.lemmas.List.{at_drop_more, at_drop_all, drop_more, take_more, append_assoc, append-nil}
-use Rattle.std.proofs.lemmas.Bool.{cond-true, cond-false, cond_both, lt-leb, le-leb, ltb-true, ltb-false, and_from, and_left, and_right}
+use Rattle.std.proofs.lemmas.List.{at_drop_more, take_more}
+use Rattle.std.proofs.lemmas.Bool.{cond-true, cond-false, cond_both, lt-leb, le-leb, ltb-true, ltb-false, and_from, and_right}
 use Rattle.script.specs.Hex.{hex_digit, hex_value, hex_digits, hex_word, unhexed, hex_letter, hexed}
 
 and_true : (x : Bool) → (x && true) ≡ x

@@ -1,5 +1,5 @@
 -- The statements about searches, about the release that they lead to, and about pictures of plans: what a line's words say.
-use Rattle.std.specs.Prelude.{ℕ, Bool, cond, List, [], ◌∷◌, Some, None, Option}
+use Rattle.std.specs.Prelude.{ℕ, cond, List, [], ◌∷◌, Some, None, Option}
 use Rattle.std.specs.Option.{option_map}
 use Rattle.script.specs.declared.search_statement.SearchStatement.{SearchStatement}
 use Rattle.script.specs.declared.search_statement.SearchStatement.TheVariants as code

@@ -1,5 +1,5 @@
 -- The first words of statements.
-use Rattle.std.specs.Prelude.{ℕ, Bool, cond, List, Some, None, codes, Option}
+use Rattle.std.specs.Prelude.{ℕ, cond, List, Some, None, codes, Option}
 use Prim.Native.String.{String}
 use Rattle.std.specs.Str.{bytes_eq}
 use Rattle.script.specs.declared.verb.Verb.{Verb}

@@ -4,7 +4,7 @@ use mathlib.Core.Option.{Option, none}
 use Rattle.walk.specs.declared.slot.Slot.{Slot}
 use Rattle.walk.specs.Kinds.{Kind}
 use Rattle.walk.specs.Walks.{walk}
-use Rattle.walk.specs.Answers.{usable, full_number, verdict, run as run_of, Leaves}
+use Rattle.walk.specs.Answers.{usable, full_number, verdict, Leaves}
 use Rattle.walk.proofs.Leaving.{leaves_more, run_is}
 use Rattle.automata.specs.Nfa.{Nfa}
 use Rattle.automata.specs.Drawing.{Report, blank}

@@ -1,6 +1,5 @@
 -- Every comparison by a lawful order finds what is so.
-use Rattle.std.proofs.Common.{◌≡◌, ℕ, ◌*◌, ◌^◌, ◌≤◌, Bool, ◌↔◌, List, refl, ⊎_elim}
-use Rattle.walk.specs.Kinds.{Missed}
+use Rattle.std.proofs.Common.{ℕ, ◌*◌, ◌^◌, Bool, ◌↔◌, List, ⊎_elim}
 use Rattle.walk.specs.Walks.{Outcome, passed, failed, full, walk}
 use Rattle.walk.specs.Answers.{run}
 use Rattle.walk.specs.Statements.{Says, NotFull}
@@ -12,7 +11,7 @@ use Rattle.automata.specs.Runs.{Included}
 use Rattle.automata.specs.Laws.{Lawful}
 use Rattle.search.specs.declared.pair.Pair.{Pair}
 use Rattle.search.specs.Pairs.{pairs, FitPair, PairMisses, pair_code}
-use Rattle.search.specs.Comparing.{Offends, Compares, Passed, Comparison, EveryComparison}
+use Rattle.search.specs.Comparing.{Offends, Compares, Passed, EveryComparison}
 use Rattle.search.proofs.RuleSets.{permits_or_not}
 use Rattle.search.proofs.PairFacts.{pair_facts, pair_transitive, pair_missed, pair_coded}
 

@@ -1,5 +1,5 @@
 -- Every comparison and every question whether a rule is open finds what is so.
-use Rattle.std.proofs.Common.{◌≡◌, ℕ, ◌*◌, ◌^◌, ◌≤◌, Bool, ◌↔◌, List, refl, ⊎_elim, arith}
+use Rattle.std.proofs.Common.{◌≡◌, ℕ, ◌*◌, ◌^◌, ◌↔◌, List, refl, ⊎_elim, arith}
 use Rattle.walk.specs.Kinds.{Kind, Facts, Transitive, Missed}
 use Rattle.walk.specs.Walks.{Outcome, passed, failed, full, walk}
 use Rattle.walk.specs.Answers.{verdict, run}

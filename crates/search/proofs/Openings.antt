@@ -1,5 +1,5 @@
 -- Every question whether the rule is open, by an order that is lawful beside an empty programme, finds what is so.
-use Rattle.std.proofs.Common.{◌≡◌, ℕ, ◌^◌, ◌≤◌, Bool, ◌↔◌, List, refl, ⊎_elim}
+use Rattle.std.proofs.Common.{ℕ, ◌^◌, Bool, ◌↔◌, List, ⊎_elim}
 use Rattle.walk.specs.Walks.{Outcome, passed, failed, full, walk}
 use Rattle.walk.specs.Answers.{run}
 use Rattle.walk.specs.Statements.{Says, NotFull}
@@ -11,7 +11,7 @@ use Rattle.automata.specs.Drawing.{blank}
 use Rattle.automata.specs.Laws.{Lawful}
 use Rattle.search.specs.StateSets.{sets, FitSet, SetMisses}
 use Rattle.search.specs.Comparing.{Passed}
-use Rattle.search.specs.Opening.{Open, Closes, Opens, Opened, EveryOpening}
+use Rattle.search.specs.Opening.{Open, Closes, Opens, EveryOpening}
 use Rattle.search.proofs.RuleSets.{permits_or_not}
 use Rattle.search.proofs.SetFacts.{set_facts, set_transitive, set_missed, set_coded}
 

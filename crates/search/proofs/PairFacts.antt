@@ -1,18 +1,17 @@
 -- The pair kind has the facts of a search, its starts miss the runs that only the programme permits, and its fit items
 -- are counted.
-use Rattle.std.proofs.Common.{◌≡◌, ℕ, ◌+◌, ◌*◌, ◌/◌, ◌%◌, ◌^◌, ◌<◌, Bool, true, ◌&&◌, eqb, ◌↔◌, List, [], ◌∷◌, sym, refl, ap, ◌∙◌, subst, arith}
+use Rattle.std.proofs.Common.{◌≡◌, ℕ, ◌*◌, ◌/◌, ◌%◌, ◌^◌, ◌<◌, Bool, true, eqb, ◌↔◌, List, ◌∷◌, sym, refl, ap, ◌∙◌, subst, arith}
 use lib.Bits.{bit_and}
 use Rattle.std.proofs.lemmas.Bool.{and_parts, and_from}
 use Rattle.std.proofs.lemmas.Nat.{mul-add-lt, div-mul-add, mod-mul-add}
 use Rattle.walk.specs.Lists.{Any}
-use Rattle.walk.specs.Kinds.{Kind, Facts, Transitive, Missed}
+use Rattle.walk.specs.Kinds.{Facts, Transitive, Missed}
 use Rattle.walk.specs.Statements.{Coded}
 use Rattle.automata.specs.Sets.{has}
 use Rattle.automata.specs.Nfa.{Nfa, Proper}
 use Rattle.automata.specs.Steps.{onward}
 use Rattle.automata.specs.Laws.{Lawful}
-use Rattle.automata.specs.Greatest.{LeadsToEnd}
-use Rattle.automata.specs.Reducing.{under, all_under, reduce, LeadsNone}
+use Rattle.automata.specs.Reducing.{all_under, reduce}
 use Rattle.automata.proofs.Bits.{has_small}
 use Rattle.automata.proofs.Sided.{keeps_programme, keeps_across, keeps_rule, same_programme, through_programme}
 use Rattle.automata.proofs.Reduced.{under_find, reduce_small, reduce_none, all_under_none, onward_none, onward_small, no_end}

@@ -1,7 +1,7 @@
 -- Being below states of a set, as a test of bits of a row; and the loops that go through the states of a set.
-use Rattle.std.proofs.Common.{◌≡◌, ℕ, zero, suc, ◌+◌, ◌/◌, ◌%◌, ◌^◌, ◌<◌, ◌≤◌, Bool, true, false, cond, not, ◌&&◌, eqb, ltb, ◌⊎◌, List, get_or, sym, refl, ap, ◌∙◌, inl, inr, add-one, arith, shr-shr}
+use Rattle.std.proofs.Common.{◌≡◌, ℕ, ◌+◌, ◌/◌, ◌%◌, ◌^◌, ◌<◌, ◌≤◌, Bool, true, false, cond, not, ◌&&◌, eqb, ltb, List, get_or, sym, refl, ap, ◌∙◌, add-one, arith, shr-shr}
 use lib.Bits.{bit_and, and_le_r}
-use Rattle.std.proofs.lemmas.Bool.{and_parts, and_from, both_ways, not-true, not_from_false, eqb-false, ne_eqb, lt-ltb, le-ltb, ltb-true, cases_lt, cond-true, cond-false}
+use Rattle.std.proofs.lemmas.Bool.{and_parts, and_from, both_ways, not-true, not_from_false, eqb-false, ne_eqb, lt-ltb, ltb-true, cond-true, cond-false}
 use Rattle.automata.specs.Sets.{has, without}
 use Rattle.automata.specs.Relations.{bits}
 use Rattle.automata.specs.Reducing.{every, under, spare, relieve, reduce_first}

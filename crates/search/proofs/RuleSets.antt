@@ -1,6 +1,6 @@
 -- Sets of rule states under a lawful order: covering is reflexive and transitive, and a start set misses what the rule
 -- does not permit.
-use Rattle.std.proofs.Common.{◌≡◌, ℕ, ◌+◌, ◌^◌, ◌<◌, Bool, true, false, not, eqb, ◌⊎◌, ◌↔◌, List, sym, refl, ap, ◌∙◌, subst, inl, inr, ⊎_elim, arith, pow_mono}
+use Rattle.std.proofs.Common.{◌≡◌, ℕ, ◌+◌, ◌^◌, ◌<◌, Bool, true, not, eqb, ◌⊎◌, ◌↔◌, List, refl, ap, ◌∙◌, inl, inr, ⊎_elim, arith, pow_mono}
 use lib.Bits.{bit_and}
 use Rattle.std.proofs.lemmas.Bool.{cases_lt, cases_Bool, both_ways}
 use Rattle.automata.specs.Sets.{has}

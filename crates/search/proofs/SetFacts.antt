@@ -1,15 +1,14 @@
 -- The set kind has the facts of a search, its start misses the runs of the first commands that the rule does not
 -- permit, and its fit items are counted.
-use Rattle.std.proofs.Common.{◌≡◌, ℕ, ◌^◌, ◌<◌, Bool, true, ◌⊎◌, ◌↔◌, List, [], ◌∷◌, refl, inl, inr}
+use Rattle.std.proofs.Common.{ℕ, ◌^◌, ◌<◌, Bool, ◌↔◌, List, ◌∷◌, inl, inr}
 use mathlib.Core.Bool.{false≢true}
 use Rattle.walk.specs.Lists.{Any}
-use Rattle.walk.specs.Kinds.{Kind, Facts, Transitive, Missed}
+use Rattle.walk.specs.Kinds.{Facts, Transitive, Missed}
 use Rattle.walk.specs.Statements.{Coded}
 use Rattle.automata.specs.Nfa.{Nfa, Proper}
 use Rattle.automata.specs.Drawing.{blank}
 use Rattle.automata.specs.Steps.{onward}
 use Rattle.automata.specs.Laws.{Lawful}
-use Rattle.automata.specs.Reducing.{reduce, LeadsNone}
 use Rattle.automata.proofs.DrawnProper.{blank_proper}
 use Rattle.automata.proofs.Sided.{keeps_rule}
 use Rattle.automata.proofs.Reduced.{reduce_small, reduce_none, all_under_none, onward_none, onward_small, no_end}

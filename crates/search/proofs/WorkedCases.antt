@@ -1,16 +1,16 @@
 -- The worked cases, computed.
-use Rattle.std.proofs.Common.{◌≡◌, ℕ, Bool, true, ◌&&◌, ◌||◌, [], sym, refl, subst, arith}
+use Rattle.std.proofs.Common.{◌≡◌, ℕ, Bool, ◌&&◌, [], refl, subst, arith}
 use mathlib.Core.Path.{fun_ext}
 use mathlib.Core.Option.{none}
 use Rattle.std.proofs.lemmas.Bool.{and_parts, and_from}
 use Rattle.walk.specs.Fans.{select}
 use Rattle.walk.specs.Runs.{run_to}
 use Rattle.walk.specs.Walks.{pick, fails, covered, withdraw, store, offer, offers, children, turn, turns, walk}
-use Rattle.automata.specs.Nfa.{Nfa, Proper}
-use Rattle.automata.specs.Drawing.{blank, with_state, with_start, with_end, with_arrow}
-use Rattle.automata.specs.Numbering.{exists, beside}
-use Rattle.automata.specs.Relations.{among, any}
-use Rattle.automata.specs.Laws.{Lawful, Simulation}
+use Rattle.automata.specs.Nfa.{Proper}
+use Rattle.automata.specs.Drawing.{blank}
+use Rattle.automata.specs.Numbering.{exists}
+use Rattle.automata.specs.Relations.{any}
+use Rattle.automata.specs.Laws.{Lawful}
 use Rattle.automata.specs.Greatest.{Greatest}
 use Rattle.automata.specs.Testing.{tested}
 use Rattle.automata.specs.Steps.{onward_from}

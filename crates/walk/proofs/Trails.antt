@@ -1,5 +1,5 @@
 -- The run by which an item was reached, written from its end: each parent's command in front of what is there.
-use Rattle.std.proofs.Common.{◌≡◌, ℕ, zero, suc, ◌+◌, ◌-◌, ◌<◌, ◌≤◌, List, [], ◌∷◌, ◌++◌, map, length, get_or, take, drop, set, sym, refl, ap, ◌∙◌, append_assoc, append-nil, add-one, arith, length-append}
+use Rattle.std.proofs.Common.{◌≡◌, ℕ, zero, suc, ◌-◌, ◌<◌, ◌≤◌, List, [], ◌∷◌, ◌++◌, map, length, get_or, take, drop, set, sym, refl, ap, ◌∙◌, append_assoc, append-nil, add-one, arith, length-append}
 use Rattle.std.proofs.lemmas.List.{get_or-map, get_or-take, get_or_past, length-take-le, length-map, drop-set}
 use Rattle.walk.specs.declared.slot.Slot.{Slot}
 use Rattle.walk.specs.Slots.{parent_of, command_of}

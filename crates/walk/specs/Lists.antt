@@ -1,5 +1,5 @@
 -- What holds of every entry of a list, and of some entry.
-use Rattle.std.specs.Prelude.{◌≡◌, ◌⊎◌, List, [], ◌∷◌, ◌≢◌}
+use Rattle.std.specs.Prelude.{◌⊎◌, List, [], ◌∷◌, ◌≢◌}
 
 -- each entry has P
 abbrev pub All : {A : Type 0} → (A → Type 0) → List A → Type 0

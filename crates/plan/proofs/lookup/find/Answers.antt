@@ -1,4 +1,4 @@
-use Rattle.std.proofs.Common.{sym, ap, ◌∙◌, arith}
+use Rattle.std.proofs.Common.{sym, ◌∙◌, arith}
 use Rattle.automata.specs.Lookup.{key}
 use Rattle.automata.proofs.Halves.{search_above, search_below, halving_done}
 use Rattle.plan.proofs.lookup.find.Goals as goal

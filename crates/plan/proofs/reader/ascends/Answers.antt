@@ -1,5 +1,5 @@
-use Rattle.std.proofs.Common.{◌+◌, ◌<◌, Bool, ◌&&◌, ◌||◌, eqb, ltb, length, get_or, drop, sym, ap, ◌∙◌, ap₂, arith}
-use Rattle.std.proofs.lemmas.Bool.{lt-ltb, le-ltb, eq-eqb, ne_eqb, or_left, or_from, and_left}
+use Rattle.std.proofs.Common.{◌+◌, Bool, ◌&&◌, ◌||◌, eqb, ltb, get_or, drop, sym, ◌∙◌, ap₂, arith}
+use Rattle.std.proofs.lemmas.Bool.{lt-ltb, le-ltb, eq-eqb, ne_eqb, or_left}
 use Rattle.automata.specs.Reading.{lexb}
 use Rattle.automata.proofs.Scans.{lex_more, lex_short, lex_none}
 use Rattle.plan.proofs.reader.ascends.Goals as goal

@@ -1,7 +1,7 @@
-use Rattle.std.proofs.Common.{◌≡◌, ℕ, ◌+◌, ◌<◌, ◌≤◌, Bool, true, false, eqb, List, length, take, drop, sym, refl, ap, ◌∙◌, inl, inr, arith, ltb-true}
+use Rattle.std.proofs.Common.{◌≡◌, ℕ, ◌<◌, ◌≤◌, eqb, length, sym, refl, ap, ◌∙◌, inl, inr, arith, ltb-true}
 use Rattle.std.proofs.lemmas.Bool.{cond_both}
 use Rattle.automata.specs.Records.{len, kind, size}
-use Rattle.automata.specs.Reading.{inside, lexb, misplaced}
+use Rattle.automata.specs.Reading.{inside, lexb}
 use Rattle.automata.proofs.Pieces.{piece_length, first_16, first_17, first_18_short, first_18, first_19, first_20, first_21, none_first, tail_body, rest_order}
 use Rattle.plan.proofs.reader.check_record.Goals as goal
 use Rattle.plan.proofs.reader.check_record.Goals.{then-kind-lt1-via-then-kind-lt1, then-kind-lt1-via-else-kind-lt1+then-kind-gt4}

@@ -1,6 +1,5 @@
-use Rattle.std.proofs.Common.{◌≡◌, ℕ, length, ap, subst, arith}
+use Rattle.std.proofs.Common.{subst, arith}
 use Rattle.automata.specs.Nfa.{Nfa}
-use Rattle.automata.specs.Files.{file}
 use Rattle.plan.specs.Answers.{Written, TooShort}
 use Rattle.plan.specs.Tables.{drawn}
 use Rattle.plan.specs.declared.refusal.Refusal.TheVariants.{BufferShort}

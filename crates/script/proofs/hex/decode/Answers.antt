@@ -1,6 +1,6 @@
-use Rattle.std.proofs.Common.{◌≡◌, ℕ, ◌+◌, ◌*◌, List, [], ◌∷◌, ◌++◌, length, get_or, drop, vec_items, sym, ap, ◌∙◌, ap₂, arith}
+use Rattle.std.proofs.Common.{ℕ, ◌+◌, ◌*◌, List, ◌∷◌, ◌++◌, drop, vec_items, sym, ap, ◌∙◌, ap₂, arith}
 use Rattle.std.proofs.lemmas.List.{append_assoc, append-nil, length-drop}
-use Rattle.script.specs.Hex.{unhexed, hex_value}
+use Rattle.script.specs.Hex.{unhexed}
 use Rattle.script.proofs.Hexes.{unhexed_more, unhexed_short}
 use Rattle.script.proofs.hex.decode.Goals as goal
 

@@ -1,4 +1,4 @@
-use Rattle.std.proofs.Common.{◌%◌, Bool, true, ◌&&◌, eqb, length, sym, ap, ◌∙◌, ap₂}
+use Rattle.std.proofs.Common.{Bool, ◌&&◌, sym, ap, ◌∙◌}
 use Rattle.std.proofs.lemmas.Bool.{eq-eqb, ne_eqb}
 use Rattle.script.specs.Hex.{hex_digits}
 use Rattle.script.proofs.Hexes.{hex_single, hex_other}

@@ -1,6 +1,6 @@
-use Rattle.std.proofs.Common.{◌≡◌, ℕ, ◌+◌, ◌-◌, ◌*◌, ◌≤◌, length, get_or, drop, sym, ap, ◌∙◌, arith}
+use Rattle.std.proofs.Common.{◌+◌, ◌-◌, ◌*◌, ◌≤◌, get_or, drop, sym, ap, ◌∙◌, arith}
 use Rattle.std.proofs.lemmas.List.{at_drop_all}
-use Rattle.script.specs.Numbers.{digit, number_behind, decimal, below}
+use Rattle.script.specs.Numbers.{number_behind, below}
 use Rattle.script.proofs.Values.{number_digit, number_other, number_past, decimal_left, below_some}
 use Rattle.script.proofs.numbers.number.Goals as goal
 use Rattle.script.proofs.numbers.number.Goals.{then-d-most-via-then-d-most, then-d-most-via-else-d-most+then-n-most}

@@ -2,7 +2,7 @@ use Rattle.std.proofs.Common.{ℕ, ◌*◌, ◌^◌, Bool, List, length}
 use Rattle.walk.specs.declared.slot.Slot.{Slot}
 use Rattle.walk.specs.Walks.{walk}
 use Rattle.walk.specs.Answers.{usable, Leaves}
-use Rattle.automata.specs.Nfa.{Nfa, Proper}
+use Rattle.automata.specs.Nfa.{Nfa}
 use Rattle.automata.specs.Runs.{Permits}
 use Rattle.automata.specs.Laws.{Lawful}
 use Rattle.search.specs.declared.pair.Pair.{Pair}

@@ -1,4 +1,4 @@
-use Rattle.std.proofs.Common.{◌≡◌, ℕ, ◌+◌, Bool, not, ◌||◌, sym, ap, ◌∙◌, arith}
+use Rattle.std.proofs.Common.{◌≡◌, ℕ, ◌+◌, not, ◌||◌, sym, ap, ◌∙◌, arith}
 use Rattle.automata.specs.Sets.{has}
 use Rattle.automata.specs.Reducing.{every, under, all_under}
 use Rattle.order.specs.Orders.{rowed}

@@ -1,4 +1,4 @@
-use Rattle.std.proofs.Common.{ℕ, ◌+◌, sym, ap, ◌∙◌, arith}
+use Rattle.std.proofs.Common.{ℕ, ◌+◌, sym, ap, ◌∙◌}
 use Rattle.automata.specs.Reducing.{under, spare}
 use Rattle.order.specs.Orders.{rowed}
 use Rattle.search.proofs.RowTests.{both_then, both_else}

@@ -1,7 +1,7 @@
-use Rattle.std.proofs.Common.{◌≡◌, ℕ, ◌+◌, ◌/◌, ◌%◌, ◌<◌, List, [], ◌∷◌, ◌++◌, length, get_or, take, drop, vec_items, sym, refl, ap, ◌∙◌, ap₂, arith}
+use Rattle.std.proofs.Common.{◌≡◌, ℕ, ◌<◌, List, [], ◌∷◌, ◌++◌, length, take, drop, vec_items, sym, refl, ap, ◌∙◌, ap₂}
 use Rattle.std.proofs.lemmas.List.{append_assoc, take_all, drop_at}
 use Rattle.std.proofs.ByRecursion.{All-from_get_or}
-use Rattle.script.specs.Hex.{unhexed, hexed, hex_letter}
+use Rattle.script.specs.Hex.{unhexed, hexed}
 use Rattle.wording.proofs.Appends.{join}
 use Rattle.script.proofs.Hexes.{hexed_more, unhexed_hexed}
 use Rattle.wording.proofs.hex.encode.Goals as goal

@@ -1,4 +1,4 @@
-use Rattle.std.proofs.Common.{ℕ, Bool, cond, List, ◌++◌, vec_items, codes, sym, ap}
+use Rattle.std.proofs.Common.{Bool, cond, ◌++◌, vec_items, codes, sym, ap}
 use Rattle.wording.specs.Names.{value_name}
 use Rattle.wording.proofs.Appends.{join_call}
 use Rattle.wording.proofs.names.push_named.Goals as goal

@@ -1,4 +1,4 @@
-use Rattle.std.proofs.Common.{◌+◌, [], ◌∷◌, ◌++◌, vec_items, sym}
+use Rattle.std.proofs.Common.{◌+◌, [], ◌∷◌, vec_items, sym}
 use Rattle.std.proofs.lemmas.Bool.{cond-false, ne_eqb}
 use Rattle.wording.specs.Texts.{numeral}
 use Rattle.wording.specs.Show.{set_text, arrows_text}

@@ -1,7 +1,6 @@
 use Rattle.std.proofs.Common.{ℕ, ◌+◌, Bool, cond, List, [], ◌∷◌, ◌++◌, map, vec_items, sym, ap, ◌∙◌}
 use Rattle.std.proofs.lemmas.List.{append-nil}
 use Rattle.wording.specs.Texts.{numeral, spaced}
-use Rattle.wording.specs.Show.{members}
 use Rattle.wording.proofs.Appends.{join_as}
 use Rattle.wording.proofs.Shows.{none, members_text, members_zero, members_in, members_out, none_in}
 use Rattle.wording.proofs.show.push_members.Goals as goal

@@ -1,6 +1,6 @@
 use Rattle.std.proofs.Common.{ℕ, List, ◌++◌, vec_items, sym, ap, ◌∙◌}
 use Rattle.std.proofs.lemmas.List.{append-nil}
-use Rattle.wording.specs.Show.{each, arrows_text}
+use Rattle.wording.specs.Show.{arrows_text}
 use Rattle.wording.proofs.Appends.{join_as}
 use Rattle.wording.proofs.Shows.{each_more, each_zero}
 use Rattle.wording.proofs.show.push_state.Goals as goal

@@ -1,4 +1,4 @@
-use Rattle.std.proofs.Common.{◌≡◌, ℕ, ◌++◌, length, vec_items}
+use Rattle.std.proofs.Common.{◌≡◌, ◌++◌, length, vec_items}
 use Rattle.script.specs.Words.{words}
 use Rattle.wording.specs.Texts.{behind_spaces}
 use Rattle.wording.proofs.text.push_words.Given as goal

@@ -1,7 +1,6 @@
 use Rattle.std.proofs.lemmas.Result.{err_from_is_err_and}
-use Rattle.plan.specs.Refusals.{report_of}
 use Rattle.calls.specs.declared.drawing.Drawing.TheVariants.{Lift}
-use Rattle.calls.specs.Calls.{Draw, done, refused}
+use Rattle.calls.specs.Calls.{Draw, done}
 use Rattle.calls.proofs.Promising.{stepped}
 use Rattle.guard.specs.Meanings.{guard_of}
 use Rattle.guard.proofs.guard.Guard.lift.Goals as goal

@@ -1,5 +1,4 @@
 use Rattle.std.proofs.lemmas.Result.{err_from_is_err_and}
-use Rattle.plan.specs.Refusals.{report_of}
 use Rattle.calls.specs.Calls.{Release, granted}
 use Rattle.calls.proofs.Promising.{stepped}
 use Rattle.guard.specs.Meanings.{guard_of}

@@ -1,7 +1,7 @@
-use Rattle.std.proofs.Common.{◌≡◌, ℕ, ◌+◌, ◌<◌, ◌≤◌, List, [], ◌∷◌, length, drop, sym, refl, ◌∙◌, subst, inl, inr, arith, length-drop}
+use Rattle.std.proofs.Common.{◌≡◌, ℕ, ◌<◌, ◌≤◌, List, [], ◌∷◌, length, drop, sym, refl, subst, inl, inr, arith, length-drop}
 use Rattle.std.proofs.lemmas.List.{take_rest}
 use Rattle.std.proofs.lemmas.Bool.{eqb-true, eqb-false}
-use Rattle.automata.specs.Reading.{piece, stated_count, causes, NoneHolds, FirstHolds}
+use Rattle.automata.specs.Reading.{piece, causes, NoneHolds, FirstHolds}
 use Rattle.automata.proofs.InTurn.{read_start, read_more, read_fault, read_all}
 use Rattle.plan.proofs.Reading.{refused_as, read_as}
 use Rattle.plan.specs.Refusals.{number_of}

@@ -1,4 +1,4 @@
-use Rattle.std.proofs.Common.{◌≡◌, ℕ, ◌+◌, ◌*◌, ◌^◌, ◌<◌, length, get_or, set, sym, subst, arith}
+use Rattle.std.proofs.Common.{◌≡◌, ℕ, ◌^◌, ◌<◌, get_or, set, sym, subst, arith}
 use Rattle.automata.specs.Nfa.{Nfa}
 use Rattle.automata.specs.Sets.{without}
 use Rattle.automata.specs.Runs.{Included}
