@@ -73,7 +73,7 @@ fn run(rt: &HostRuntime) -> anyhow::Result<bool> {
             slots.as_str(),
         ),
         _ => Err(anyhow!(
-            "usage: console [SCRIPT], console compare PROGRAMME RULE [ORDER] [SLOTS], console draw PLAN"
+            "console takes one argument at most, the path of a script; or compare PROGRAMME RULE [ORDER] [SLOTS]; or draw PLAN"
         )),
     }
 }
