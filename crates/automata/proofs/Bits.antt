@@ -1,9 +1,9 @@
 use Rattle.std.proofs.Common.{◌≡◌, ℕ, zero, suc, ◌+◌, ◌-◌, ◌*◌, ◌/◌, ◌%◌, ◌^◌, ◌<◌, ◌≤◌, min, max, true, false, cond, not, ◌&&◌, ◌||◌, eqb, leb, ◌⊎◌, sym, refl, ap, ◌∙◌, subst, inl, inr, ⊎_elim, mul_assoc, add-mul, pow-suc, arith, pow_pos, pow_mono, pow-add, shr-shr, shr_lt}
 use native.Mathlib.Nat.{div_self, div-eq_of_lt}
-use lib.Count.{count_leading_zeros, count_trailing_zeros}
+use lib.Count.{count_trailing_zeros}
 use lib.Bits.{bit_and, bit_or, and_step, or_step, and_shr, or_shr, and_le_l}
 use lib.Pow.{pow-lt, shl-shr, high, split}
-use Rattle.std.proofs.lemmas.Nat.{mod_below, leading_top, le-div, div_below}
+use Rattle.std.proofs.lemmas.Nat.{mod_below}
 use Rattle.std.proofs.lemmas.Bool.{cases_order, cases_eq, cases_lt, eq-eqb, ne_eqb, cond-true, cond-false, both_ways, le-leb, lt-leb}
 use Rattle.automata.specs.Sets.{has}
 
@@ -207,17 +207,3 @@ has_not w k x h hx =
     let n : (2 ^ w - 1 - x) / 2 ^ k % 2 ≡ 0 = omega (arith, bit_not w k x h hx) in
     rw e (ne_eqb ((2 ^ w - 1 - x) / 2 ^ k % 2) 1 (λ q. omega arith)))
     (bit_cases (x / 2 ^ k))
-
--- the highest element
-top_has : (a j : ℕ) → 2 ^ j ≤ a → a < 2 ^ suc j → has a j ≡ true
-top_has a j l h =
-    let p = pow_pos j in
-    let x : 1 ≤ a / 2 ^ j = le-div 1 a (2 ^ j) p (omega arith) in
-    let y : a / 2 ^ j < 2 = div_below a (2 ^ j) 2 p (omega (arith, pow-suc 2 j)) in
-    eq-eqb (a / 2 ^ j % 2) 1 (omega arith)
-
-pub leading_has : (w a : ℕ) → 0 < a → a < 2 ^ suc w → (count_leading_zeros (suc w) a ≤ w) × (has a (w - count_leading_zeros (suc w) a) ≡ true)
-leading_has w a l h =
-    let t = leading_top (suc w) a l h in
-    let e : t.0 ≡ w - count_leading_zeros (suc w) a = omega (arith, t.1) in
-    (omega (arith, t.1), subst (λ (k : ℕ). has a k ≡ true) e (top_has a t.0 t.2 t.3))

@@ -1,24 +1,9 @@
-use Rattle.std.proofs.Common.{◌≡◌, ℕ, zero, suc, ◌+◌, ◌-◌, ◌<◌, ◌≤◌, ◌&&◌, eqb, leb, List, [], ◌∷◌, ◌++◌, length, get_or, sym, refl, ap, ◌∙◌, ap₂, inl, inr, append_assoc, add-zero, arith, length-append, get_or-append-add}
+use Rattle.std.proofs.Common.{◌≡◌, ℕ, zero, suc, ◌+◌, ◌-◌, ◌*◌, ◌<◌, ◌≤◌, ◌&&◌, eqb, leb, List, [], ◌∷◌, ◌++◌, length, get_or, sym, refl, ap, ◌∙◌, ap₂, inl, inr, ⊎_elim, append_assoc, add-zero, arith, length-append, get_or-append-add}
 use lib.ListN.{get_or-append}
-use Rattle.std.proofs.lemmas.Bool.{le-leb, leb-true, eq-eqb, eqb-true, ne_eqb, and_parts, and_from, and_right, cond-true, cond-false, cond_both}
+use Rattle.std.proofs.lemmas.Bool.{cases_lt, le-leb, leb-true, eq-eqb, eqb-true, ne_eqb, and_parts, and_from, and_right, cond-true, cond-false, cond_both}
 use Rattle.automata.specs.Files.{joined}
 use Rattle.automata.specs.Lookup.{front_from, front}
 use Rattle.automata.proofs.Lists.{Mem}
-
--- the front lies inside the bytes
-front_from_within : (m : ℕ) (f : List ℕ) (at : ℕ) → at ≤ length f → (at ≤ front_from m f at) × (front_from m f at ≤ length f)
-unfolding front_from
-front_from_within zero f at h = (omega arith, h)
-front_from_within (suc m) f at h =
-    cond_both (leb (at + 5) (length f) && eqb (get_or f at 0) 3) (front_from m f (at + 5)) at (λ r. (at ≤ r) × (r ≤ length f))
-    (λ e.
-    let p = and_parts (leb (at + 5) (length f)) (eqb (get_or f at 0) 3) e in
-    let r = front_from_within m f (at + 5) (leb-true (at + 5) (length f) p.0) in
-    (omega (arith, r.0), r.1))
-    (λ _. (omega arith, h))
-
-pub front_within : (f : List ℕ) → front f ≤ length f
-front_within f = (front_from_within 65 f 0 (omega arith)).1
 
 -- the byte where the second of two parts begins
 slice_index_seam : (xs ys : List ℕ) → get_or (xs ++ ys) (length xs) 0 ≡ get_or ys 0 0
@@ -63,25 +48,50 @@ pub front_joined : (gs : List (List ℕ)) (r : List ℕ) → length gs ≤ 65 �
     (get_or r 0 0 ≡ 3 → ⊥) → front (joined gs ++ r) ≡ length (joined gs)
 front_joined gs r l s ne = front_from_joined 65 gs [] r l s ne ∙ omega arith
 
--- the scan, step by step: i steps are done
-pub front_more : (f : List ℕ) (i at : ℕ) → i < 65 → at + 5 ≤ length f → get_or f at 0 ≡ 3 → front_from (65 - i) f at ≡ front_from (65 - (i + 1)) f (at + 5)
+-- n short records in a row
+front_goes_on : (n d : ℕ) (f : List ℕ) (at : ℕ) → ((i : ℕ) → i < n → (at + 5 * i + 5 ≤ length f) × (get_or f (at + 5 * i) 0 ≡ 3)) →
+    front_from (n + d) f at ≡ front_from d f (at + 5 * n)
 unfolding front_from
-front_more f i at l h e =
-    let s : 65 - i ≡ suc (65 - (i + 1)) = omega arith in
-    ap (λ (m : ℕ). front_from m f at) s
+front_goes_on zero d f at h =
+    let e : 0 + d ≡ d = omega arith in
+    let a : at ≡ at + 5 * 0 = omega arith in
+    ap₂ (λ (m a : ℕ). front_from m f a) e a
+front_goes_on (suc n) d f at h =
+    let e : suc n + d ≡ suc (n + d) = omega arith in
+    let a : at + 5 * 0 ≡ at = omega arith in
+    let s = h 0 (omega arith) in
+    let three : get_or f at 0 ≡ 3 = ap (λ (k : ℕ). get_or f k 0) (sym a) ∙ s.1 in
+    let more : (i : ℕ) → i < n → (at + 5 + 5 * i + 5 ≤ length f) × (get_or f (at + 5 + 5 * i) 0 ≡ 3) =
+    λ i l. let w = h (suc i) (omega arith) in
+    let k : at + 5 + 5 * i ≡ at + 5 * suc i = omega arith in
+    (omega (arith, w.0), ap (λ (j : ℕ). get_or f j 0) k ∙ w.1) in
+    let z : at + 5 + 5 * n ≡ at + 5 * suc n = omega arith in
+    ap (λ (m : ℕ). front_from m f at) e
     ∙ cond-true (leb (at + 5) (length f) && eqb (get_or f at 0) 3) _ at
-    (and_from (leb (at + 5) (length f)) (eqb (get_or f at 0) 3) (le-leb (at + 5) (length f) h) (eq-eqb (get_or f at 0) 3 e))
+    (and_from (leb (at + 5) (length f)) (eqb (get_or f at 0) 3) (le-leb (at + 5) (length f) (omega (arith, s.0))) (eq-eqb (get_or f at 0) 3 three))
+    ∙ front_goes_on n d f (at + 5) more ∙ ap (front_from d f) z
 
-pub front_end : (f : List ℕ) (m at : ℕ) → (at + 5 ≤ length f → get_or f at 0 ≡ 3 → ⊥) → front_from m f at ≡ at
+front_ends : (f : List ℕ) (m at : ℕ) → (at + 5 ≤ length f → get_or f at 0 ≡ 3 → ⊥) → front_from m f at ≡ at
 unfolding front_from
-front_end f zero at h = refl
-front_end f (suc m) at h =
+front_ends f zero at h = refl
+front_ends f (suc m) at h =
     cond_both (leb (at + 5) (length f) && eqb (get_or f at 0) 3) (front_from m f (at + 5)) at (λ r. r ≡ at)
     (λ e.
     let p = and_parts (leb (at + 5) (length f)) (eqb (get_or f at 0) 3) e in
     absurd (h (leb-true (at + 5) (length f) p.0) (eqb-true (get_or f at 0) 3 p.1)))
     (λ _. refl)
 
-pub front_done : (f : List ℕ) (i at : ℕ) → 65 ≤ i → front_from (65 - i) f at ≡ at
+-- the front is as long as the short records in a row
+pub front_is : (f : List ℕ) (n : ℕ) → n ≤ 65 → ((i : ℕ) → i < n → (5 * i + 5 ≤ length f) × (get_or f (5 * i) 0 ≡ 3)) →
+    (n < 65 → 5 * n + 5 ≤ length f → get_or f (5 * n) 0 ≡ 3 → ⊥) → front f ≡ 5 * n
 unfolding front_from
-front_done f i at h = let z : 65 - i ≡ 0 = omega arith in ap (λ (m : ℕ). front_from m f at) z
+front_is f n l h ends =
+    let e : 65 ≡ n + (65 - n) = omega arith in
+    let z : (k : ℕ) → 0 + 5 * k ≡ 5 * k = λ k. omega arith in
+    ap (λ (m : ℕ). front_from m f 0) e
+    ∙ front_goes_on n (65 - n) f 0 (λ i w. let q = h i w in (omega (arith, q.0), ap (λ (j : ℕ). get_or f j 0) (z i) ∙ q.1))
+    ∙ ap (front_from (65 - n) f) (z n)
+    ∙ ⊎_elim
+    (λ w. front_ends f (65 - n) (5 * n) (ends w))
+    (λ w. let y : 65 - n ≡ 0 = omega arith in ap (λ (m : ℕ). front_from m f (5 * n)) y)
+    (cases_lt n 65)

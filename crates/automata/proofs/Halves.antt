@@ -1,4 +1,4 @@
-use Rattle.std.proofs.Common.{◌≡◌, ℕ, zero, suc, ◌+◌, ◌-◌, ◌/◌, ◌<◌, ◌≤◌, cond, ltb, sym, refl, ◌∙◌, subst, ap₂, ⊎_elim, arith}
+use Rattle.std.proofs.Common.{◌≡◌, ℕ, zero, suc, ◌+◌, ◌-◌, ◌/◌, ◌<◌, ◌≤◌, cond, ltb, sym, refl, subst, ⊎_elim, arith}
 use Rattle.std.proofs.lemmas.Bool.{cases_lt, lt-ltb, le-ltb, ltb-true, ltb-false, cond-true, cond-false, cond_both}
 use Rattle.automata.specs.Lookup.{halving}
 
@@ -25,21 +25,6 @@ halving_cases m at k lo hi P h low high =
     subst P (sym (halving_step m at k lo hi h))
     (cond_both (ltb (at (middle lo hi)) k) (halving m at k (middle lo hi + 1) hi) (halving m at k lo (middle lo hi)) P
     (λ e. low (ltb-true (at (middle lo hi)) k e)) (λ e. high (ltb-false (at (middle lo hi)) k e)))
-
--- more fuel than needed changes nothing
-pub halving_enough : (m n : ℕ) (at : ℕ → ℕ) (k lo hi : ℕ) → hi - lo ≤ m → hi - lo ≤ n → halving m at k lo hi ≡ halving n at k lo hi
-halving_enough zero n at k lo hi h l = halving_done zero at k lo hi (omega arith) ∙ sym (halving_done n at k lo hi (omega arith))
-halving_enough (suc m) zero at k lo hi h l = halving_done (suc m) at k lo hi (omega arith) ∙ sym (halving_done zero at k lo hi (omega arith))
-halving_enough (suc m) (suc n) at k lo hi h l =
-    ⊎_elim
-    (λ lt.
-    halving_step m at k lo hi lt
-    ∙ ap₂ (λ (x y : ℕ). cond (ltb (at (middle lo hi)) k) x y)
-    (halving_enough m n at k (middle lo hi + 1) hi (omega arith) (omega arith))
-    (halving_enough m n at k lo (middle lo hi) (omega arith) (omega arith))
-    ∙ sym (halving_step n at k lo hi lt))
-    (λ ge. halving_done (suc m) at k lo hi ge ∙ sym (halving_done (suc n) at k lo hi ge))
-    (cases_lt lo hi)
 
 -- the answer is one of the indices, or the end
 pub halving_range : (m : ℕ) (at : ℕ → ℕ) (k lo hi : ℕ) → lo ≤ hi → (lo ≤ halving m at k lo hi) × (halving m at k lo hi ≤ hi)
@@ -81,17 +66,14 @@ halving_boundary (suc m) at n k lo hi mono enough h l below above =
     (record { below = below; above = λ i a b. above i (omega arith) b }))
     (cases_lt lo hi)
 
--- one step of a search with just enough fuel
-module _ (at : ℕ → ℕ) (k lo hi : ℕ) (h : lo < hi) where
-  enough : halving (hi - lo) at k lo hi ≡ halving (suc (hi - lo)) at k lo hi
-  enough = halving_enough (hi - lo) (suc (hi - lo)) at k lo hi (omega arith) (omega arith)
-
-  pub search_above : at (middle lo hi) < k → halving (hi - lo) at k lo hi ≡ halving (hi - (middle lo hi + 1)) at k (middle lo hi + 1) hi
-  search_above l =
-      enough ∙ halving_step (hi - lo) at k lo hi h ∙ cond-true (ltb (at (middle lo hi)) k) _ _ (lt-ltb (at (middle lo hi)) k l)
-      ∙ halving_enough (hi - lo) (hi - (middle lo hi + 1)) at k (middle lo hi + 1) hi (omega arith) (omega arith)
-
-  pub search_below : k ≤ at (middle lo hi) → halving (hi - lo) at k lo hi ≡ halving (middle lo hi - lo) at k lo (middle lo hi)
-  search_below l =
-      enough ∙ halving_step (hi - lo) at k lo hi h ∙ cond-false (ltb (at (middle lo hi)) k) _ _ (le-ltb (at (middle lo hi)) k l)
-      ∙ halving_enough (hi - lo) (middle lo hi - lo) at k lo (middle lo hi) (omega arith) (omega arith)
+-- there is no other
+pub same_boundary : (at : ℕ → ℕ) (n k r s : ℕ) → r ≤ n → s ≤ n → Boundary at n k r → Boundary at n k s → r ≡ s
+same_boundary at n k r s h l a b =
+    ⊎_elim
+    (λ lt. absurd (omega (arith, b.below r lt, a.above r (omega arith) (omega arith))))
+    (λ ge.
+    ⊎_elim
+    (λ lt. absurd (omega (arith, a.below s lt, b.above s (omega arith) (omega arith))))
+    (λ le. omega arith)
+    (cases_lt s r))
+    (cases_lt r s)

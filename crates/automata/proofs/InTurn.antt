@@ -1,14 +1,15 @@
 -- Reading the records of a file each in turn, from the first byte on.
-use Rattle.std.proofs.Common.{◌≡◌, ℕ, ◌+◌, ◌-◌, ◌<◌, ◌≤◌, List, [], ◌∷◌, ◌++◌, length, take, drop, sym, refl, ap, ◌∙◌, subst, ap₂, ⊎_elim, append_assoc, append-nil, arith, length-append, length-drop, length-take, length-take-le, take_all, drop-drop}
-use Rattle.std.proofs.lemmas.List.{drop-take, drop_all}
+use Rattle.std.proofs.Common.{◌≡◌, ℕ, ◌+◌, ◌<◌, ◌≤◌, min, List, [], ◌∷◌, ◌++◌, length, take, drop, sym, refl, ap, ◌∙◌, subst, ap₂, ⊎_elim, append_assoc, append-nil, arith, length-append, length-take, length-take-le, take_all}
+use Rattle.std.proofs.lemmas.List.{drop_all}
 use Rattle.std.proofs.lemmas.Bool.{cases_lt}
 use Rattle.automata.specs.Records.{len}
 use Rattle.automata.specs.Files.{joined}
 use Rattle.automata.specs.Reading.{piece, cut, stated_count, causes, NoneHolds, FirstHolds, InOrder, last_of, Faulty}
-use Rattle.automata.proofs.Cuts.{cut_nil, cut_cons}
+use Rattle.automata.proofs.Fixed.{joined_append}
+use Rattle.automata.proofs.Cuts.{cut_cons, joined_cut}
 
 -- the record at the head, by its own length
-pub take_own : (m : ℕ) (f : List ℕ) → take m f ≡ take (length (take m f)) f
+take_own : (m : ℕ) (f : List ℕ) → take m f ≡ take (length (take m f)) f
 take_own m f =
     ⊎_elim
     (λ h. sym (ap (λ (k : ℕ). take k f) (length-take-le m f (omega arith))))
@@ -22,23 +23,23 @@ drop_own m f =
     (λ h. drop_all m f h ∙ sym (drop_all (length (take m f)) f (omega (arith, length-take m f))))
     (cases_lt m (length f))
 
-pub cut_step : (f : List ℕ) → 0 < length f → cut f ≡ piece f ∷ cut (drop (length (piece f)) f)
+cut_step : (f : List ℕ) → 0 < length f → cut f ≡ piece f ∷ cut (drop (length (piece f)) f)
 cut_step [] h = absurd (omega arith)
 cut_step (b ∷ f) h = cut_cons b f ∙ ap {B = List (List ℕ)} (λ r. piece (b ∷ f) ∷ cut r) (drop_own (len (b ∷ f) + 2) (b ∷ f))
 
-part : (f : List ℕ) (at size : ℕ) → size ≡ length (piece (drop at f)) → 4 < size → drop 2 (piece (drop at f)) ≡ take (at + size - (at + 2)) (drop (at + 2) f)
-part f at size e h =
-    let r : List ℕ = drop at f in
-    let m : 2 + (size - 2) ≡ size = omega arith in
-    let k : size - 2 ≡ at + size - (at + 2) = omega arith in
-    ap (drop 2) (take_own (len (drop at f) + 2) (drop at f) ∙ ap (λ (n : ℕ). take n (drop at f)) (sym e ∙ sym m))
-    ∙ drop-take 2 (size - 2) (drop at f)
-    ∙ ap₂ (λ (n : ℕ) (l : List ℕ). take n l) k (drop-drop 2 at f)
+-- what is split off by the size that the record states, or by all that is left
+pub split_piece : (f : List ℕ) (k : ℕ) → k ≡ min (len f + 2) (length f) → take k f ≡ piece f
+split_piece f k e = ap (λ (n : ℕ). take n f) (e ∙ sym (length-take (len f + 2) f)) ∙ sym (take_own (len f + 2) f)
 
--- The records before offset `at` are in order, and p is the kind and body of the last of them.
-pub record ReadTo (f : List ℕ) (at : ℕ) (p : List ℕ) : Type 0 where
+pub split_rest : (f : List ℕ) (k : ℕ) → k ≡ min (len f + 2) (length f) → 0 < length f → cut f ≡ take k f ∷ cut (drop k f)
+split_rest f k e h =
+    cut_step f h
+    ∙ ap₂ {C = List (List ℕ)} (λ (g : List ℕ) (n : ℕ). g ∷ cut (drop n f)) (sym (split_piece f k e)) (length-take (len f + 2) f ∙ sym e)
+
+-- The records before offset `at` are in order, p is the kind and body of the last of them, and `left` are the records from there on.
+pub record ReadTo (f : List ℕ) (at : ℕ) (p : List ℕ) (left : List (List ℕ)) : Type 0 where
   pub read : List (List ℕ)
-  pub split : cut f ≡ read ++ cut (drop at f)
+  pub split : cut f ≡ read ++ left
   pub place : at ≡ length (joined read)
   pub order : InOrder (stated_count f) [] read
   pub last : last_of [] read ≡ p
@@ -56,40 +57,45 @@ unfolding joined
 joined_push [] g = omega (arith, length-append g [])
 joined_push (x ∷ gs) g = omega (arith, length-append x (joined gs), length-append x (joined (gs ++ (g ∷ []))), joined_push gs g)
 
-pub read_start : (f : List ℕ) → ReadTo f 0 (take (0 - 0) (drop 0 f))
+pub read_start : (f : List ℕ) → ReadTo f 0 [] (cut f)
 unfolding joined
 read_start f = record { read = []; split = refl; place = refl; order = tt; last = refl }
 
-module _ (f : List ℕ) (at : ℕ) (p : List ℕ) (h : at < length f) (r : ReadTo f at p) where
-  next : cut f ≡ r.read ++ (piece (drop at f) ∷ cut (drop (length (piece (drop at f))) (drop at f)))
-  next = r.split ∙ ap (λ (gs : List (List ℕ)). r.read ++ gs) (cut_step (drop at f) (omega (arith, length-drop at f)))
-
-  pub read_more : (size : ℕ) → size ≡ length (piece (drop at f)) → 4 < size → NoneHolds (causes (stated_count f) p (piece (drop at f))) →
-      ReadTo f (at + size) (take (at + size - (at + 2)) (drop (at + 2) f))
-  read_more size es hs e = record {
-    read = r.read ++ (piece (drop at f) ∷ []);
-    split = next
-        ∙ ap (λ (g : List ℕ). r.read ++ (piece (drop at f) ∷ cut g)) (ap (λ (n : ℕ). drop n (drop at f)) (sym es) ∙ drop-drop size at f)
-        ∙ sym (append_assoc r.read (piece (drop at f) ∷ []) (cut (drop (at + size) f)));
-    place = omega (arith, joined_push r.read (piece (drop at f)), r.place, es);
-    order = in_order_push (stated_count f) [] r.read (piece (drop at f)) r.order
-        (subst (λ (q : List ℕ). NoneHolds (causes (stated_count f) q (piece (drop at f)))) (sym r.last) e);
-    last = last_push [] r.read (piece (drop at f)) ∙ part f at size es hs;
+module _ (f : List ℕ) (at : ℕ) (p g : List ℕ) (left : List (List ℕ)) (r : ReadTo f at p (g ∷ left)) where
+  pub read_more : NoneHolds (causes (stated_count f) p g) → ReadTo f (at + length g) (drop 2 g) left
+  read_more e = record {
+    read = r.read ++ (g ∷ []);
+    split = r.split ∙ sym (append_assoc r.read (g ∷ []) left);
+    place = omega (arith, joined_push r.read g, r.place);
+    order = in_order_push (stated_count f) [] r.read g r.order (subst (λ (q : List ℕ). NoneHolds (causes (stated_count f) q g)) (sym r.last) e);
+    last = last_push [] r.read g;
   }
 
-  pub read_fault : (c : ℕ) → FirstHolds c (causes (stated_count f) p (piece (drop at f))) → Faulty f c at
+  pub read_fault : (c : ℕ) → FirstHolds c (causes (stated_count f) p g) → Faulty f c at
   read_fault c e = record {
     before = r.read;
-    culprit = piece (drop at f);
-    after = cut (drop (length (piece (drop at f))) (drop at f));
-    split = next;
+    culprit = g;
+    after = left;
+    split = r.split;
     place = r.place;
     earlier = r.order;
-    cause = subst (λ (q : List ℕ). FirstHolds c (causes (stated_count f) q (piece (drop at f)))) (sym r.last) e;
+    cause = subst (λ (q : List ℕ). FirstHolds c (causes (stated_count f) q g)) (sym r.last) e;
   }
 
-pub read_all : (f : List ℕ) (at : ℕ) (p : List ℕ) → length f ≤ at → ReadTo f at p → InOrder (stated_count f) [] (cut f)
-read_all f at p h r =
-    let e : cut f ≡ r.read =
-    r.split ∙ ap (λ (g : List ℕ). r.read ++ cut g) (drop_all at f h) ∙ ap (λ (gs : List (List ℕ)). r.read ++ gs) cut_nil ∙ append-nil r.read in
-    subst (λ (gs : List (List ℕ)). InOrder (stated_count f) [] gs) (sym e) r.order
+  -- the record lies inside the bytes
+  joined_head : length (joined (g ∷ left)) ≡ length g + length (joined left)
+  unfolding joined
+  joined_head = length-append g (joined left)
+
+  pub read_within : at + length g ≤ length f
+  read_within =
+      omega (
+        arith,
+        r.place,
+        ap length (sym (joined_cut f) ∙ ap joined r.split ∙ joined_append r.read (g ∷ left)),
+        length-append (joined r.read) (joined (g ∷ left)),
+        joined_head,
+      )
+
+pub read_all : (f : List ℕ) (at : ℕ) (p : List ℕ) → ReadTo f at p [] → InOrder (stated_count f) [] (cut f)
+read_all f at p r = subst (λ (gs : List (List ℕ)). InOrder (stated_count f) [] gs) (sym (r.split ∙ append-nil r.read)) r.order

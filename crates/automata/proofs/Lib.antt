@@ -6,8 +6,6 @@ pub mod Cuts
 pub mod Causes
 pub mod Exact
 pub mod InTurn
-pub mod Scans
-pub mod Pieces
 pub mod Drawn
 pub mod DrawnProper
 pub mod Halves
@@ -17,6 +15,7 @@ pub mod Views
 pub mod Marks
 pub mod Steps
 pub mod Arrays
+pub mod Made
 pub mod Numbered
 pub mod Simulations
 pub mod Offended

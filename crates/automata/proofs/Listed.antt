@@ -1,12 +1,11 @@
 -- The plan that a set of ends and a table of targets give is the two plans beside each other.
-use Rattle.std.proofs.Common.{◌≡◌, ℕ, ◌+◌, ◌*◌, ◌<◌, Bool, List, length, get_or, sym, ◌∙◌, subst, ⊎_elim, arith}
+use Rattle.std.proofs.Common.{◌≡◌, ℕ, ◌+◌, ◌*◌, ◌<◌, List, length, get_or, sym, ◌∙◌, ⊎_elim, arith}
 use mathlib.Core.Path.{fun_ext}
 use lib.ListN.{get_or-eq_default}
 use Rattle.std.proofs.lemmas.Bool.{cases_lt, lt-ltb, le-ltb}
-use Rattle.automata.specs.Sets.{has}
 use Rattle.automata.specs.Nfa.{Nfa, Proper}
-use Rattle.automata.specs.Numbering.{exists, beside}
-use Rattle.automata.specs.Relations.{bits, among, cell, listed}
+use Rattle.automata.specs.Numbering.{beside}
+use Rattle.automata.specs.Relations.{cell, listed}
 use Rattle.automata.proofs.Numbered.{beside_past, beside_unknown}
 
 module _ (A R : Nfa) (pa : Proper A) (pr : Proper R) (table : List ℕ) (n : length table ≡ 1664)
@@ -28,21 +27,3 @@ module _ (A R : Nfa) (pa : Proper A) (pr : Proper R) (table : List ℕ) (n : len
   listed_beside ends e =
       let t : ◌≡◌ {A = ℕ → ℕ → ℕ} (cell table) (beside A R).targets = fun_ext (λ s. fun_ext (λ c. cell_beside s c)) in
       λ i. record { count = 64; starts = 0; ends = e i; targets = t i }
-
-  -- what holds of the one holds of the other, with the numbers that exist
-  module _ (states ends : ℕ) (all : (k : ℕ) → has states k ≡ exists A R k) (e : ends ≡ (beside A R).ends) where
-    existing : ◌≡◌ {A = ℕ → Bool} (has states) (exists A R)
-    existing = fun_ext all
-
-    pub to_beside : (F : (ℕ → Bool) → Nfa → Type 0) → F (has states) (listed ends table) → F (exists A R) (beside A R)
-    to_beside F x = subst (λ (k : ℕ → Bool). F k (beside A R)) existing (subst (λ (N : Nfa). F (has states) N) (listed_beside ends e) x)
-
-    pub from_beside : (F : (ℕ → Bool) → Nfa → Type 0) → F (exists A R) (beside A R) → F (has states) (listed ends table)
-    from_beside F x = subst (λ (N : Nfa). F (has states) N) (sym (listed_beside ends e)) (subst (λ (k : ℕ → Bool). F k (beside A R)) (sym existing) x)
-
-    -- the same with an order between the existing states, taken down as rows
-    pub to_comparison : (o : ℕ → ℕ → Bool) (rows : List ℕ) → ((p r : ℕ) → bits rows p r ≡ among (has states) o p r) → (F : (ℕ → Bool) → Nfa → (ℕ → ℕ → Bool) → Type 0) →
-        F (has states) (listed ends table) (bits rows) → F (exists A R) (beside A R) (among (exists A R) o)
-    to_comparison o rows h F x =
-        let q : ◌≡◌ {A = ℕ → ℕ → Bool} (bits rows) (among (has states) o) = fun_ext (λ p. fun_ext (λ r. h p r)) in
-        to_beside (λ (k : ℕ → Bool) (N : Nfa). F k N (among k o)) (subst (λ (s : ℕ → ℕ → Bool). F (has states) (listed ends table) s) q x)

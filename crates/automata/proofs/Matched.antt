@@ -54,9 +54,6 @@ pub record Matched (f rows kept : List ℕ) (n : ℕ) : Type 0 where
   pub size : length kept ≡ 64
   pub pairs : (p r : ℕ) → (bits kept p r ≡ true) ↔ ((bits rows p r ≡ true) × ((t : ℕ) → t < n → Matches f t (get_or rows t 0) p r))
 
-pub match_start : (f rows : List ℕ) → length rows ≡ 64 → Matched f rows rows 0
-match_start f rows n = record { size = n; pairs = λ p r. ((λ h. (h, λ t l. absurd (omega arith))), λ x. x.0) }
-
 pub match_step : (f rows kept kept' : List ℕ) (n : ℕ) → Matched f rows kept n → length kept' ≡ 64 →
     ((p r : ℕ) → (bits kept' p r ≡ true) ↔ ((bits kept p r ≡ true) × Matches f n (get_or rows n 0) p r)) → Matched f rows kept' (n + 1)
 match_step f rows kept kept' n i size h = record {
@@ -69,11 +66,6 @@ match_step f rows kept kept' n i size h = record {
     (λ x. (h p r).1 ((i.pairs p r).1 (x.0, λ t l. x.1 t (omega arith)), x.1 n (omega arith))),
   );
 }
-
-pub match_end : (f rows kept : List ℕ) (n : ℕ) → Matched f rows kept n → n ≡ 64 →
-    (p r : ℕ) → (bits kept p r ≡ true) ↔ ((bits rows p r ≡ true) × ((t : ℕ) → t < 64 → Matches f t (get_or rows t 0) p r))
-match_end f rows kept n i e p r =
-    ((λ b. let x = (i.pairs p r).0 b in (x.0, λ t l. x.1 t (omega arith))), λ x. (i.pairs p r).1 (x.0, λ t l. x.1 t (omega arith)))
 
 module _ (targets rows : List ℕ) (long : length targets ≡ 1664) (fit : (k : ℕ) → get_or targets k 0 < 2 ^ 64)
     (rows_long : length rows ≡ 64) (rows_fit : (k : ℕ) → get_or rows k 0 < 2 ^ 64) (ends : ℕ) where

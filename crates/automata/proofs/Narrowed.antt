@@ -1,33 +1,18 @@
 -- Rows that lose the pairs whose arrows to one number are not matched.
-use Rattle.std.proofs.Common.{◌≡◌, ℕ, zero, suc, ◌+◌, ◌*◌, ◌^◌, ◌<◌, ◌≤◌, min, Bool, true, false, cond, not, ◌&&◌, ◌||◌, eqb, ◌≢◌, ◌↔◌, List, [], ◌∷◌, length, get_or, set, sym, refl, ap, ◌∙◌, subst, ⊎_elim, arith, length-set, get_or-set_other, get_or-set_same}
+use Rattle.std.proofs.Common.{◌≡◌, ℕ, zero, suc, ◌+◌, ◌*◌, ◌^◌, ◌<◌, ◌≤◌, min, Bool, true, false, cond, not, ◌&&◌, ◌||◌, eqb, ◌↔◌, List, [], ◌∷◌, length, get_or, set, sym, ap, ◌∙◌, subst, ⊎_elim, arith, length-set, get_or-set_other, get_or-set_same}
 use lib.Bits.{bit_and, bit_or, and_le_l}
 use Rattle.std.proofs.lemmas.Bool.{cases_eq, cases_Bool, eq-eqb, ne_eqb, both_ways, and_parts, and_from, or_cases, or_left, or_right, or_parts, cond-true, cond-false}
 use Rattle.automata.specs.Sets.{has}
 use Rattle.automata.specs.Relations.{bits, total}
-use Rattle.automata.specs.Refining.{arc, Into, Matches}
+use Rattle.automata.specs.Refining.{arc, Into}
 use Rattle.automata.proofs.Bits.{has_or, has_and, has_zero, has_along}
-use Rattle.automata.proofs.Elements.{Less, less_was, less_other, less_gone, not_both, and_yes}
+use Rattle.automata.proofs.Elements.{Less, less_was, less_other, less_gone}
 
 -- The sources of u under the commands below n joined to the sets of each command.
 pub record Joined (f able₀ able : List ℕ) (u n : ℕ) : Type 0 where
   pub size : length able ≡ 26
   pub done : (c : ℕ) → c < n → get_or able c 0 ≡ bit_or (get_or able₀ c 0) (get_or f (u * 26 + c) 0)
   pub rest : (c : ℕ) → n ≤ c → get_or able c 0 ≡ get_or able₀ c 0
-
-pub join_start : (f able : List ℕ) (u : ℕ) → length able ≡ 26 → Joined f able able u 0
-join_start f able u n = record { size = n; done = λ c l. absurd (omega arith); rest = λ c l. refl }
-
-pub join_step : (f able₀ able : List ℕ) (u n : ℕ) → Joined f able₀ able u n → n < 26 →
-    Joined f able₀ (set able n (bit_or (get_or able n 0) (get_or f (u * 26 + n) 0))) u (n + 1)
-join_step f able₀ able u n i l = record {
-  size = length-set able n (bit_or (get_or able n 0) (get_or f (u * 26 + n) 0)) ∙ i.size;
-  done = λ c lc. ⊎_elim
-      (λ e. subst (λ (m : ℕ). get_or (set able n (bit_or (get_or able n 0) (get_or f (u * 26 + n) 0))) m 0 ≡ bit_or (get_or able₀ m 0) (get_or f (u * 26 + m) 0)) (sym e)
-      (get_or-set_same able n (bit_or (get_or able n 0) (get_or f (u * 26 + n) 0)) 0 (omega (arith, i.size)) ∙ ap (λ (m : ℕ). bit_or m (get_or f (u * 26 + n) 0)) (i.rest n (omega arith))))
-      (λ ne. get_or-set_other able n c (bit_or (get_or able n 0) (get_or f (u * 26 + n) 0)) 0 ne ∙ i.done c (omega arith))
-      (cases_eq c n);
-  rest = λ c lc. let ne : c ≢ n = (λ e. omega arith) in get_or-set_other able n c (bit_or (get_or able n 0) (get_or f (u * 26 + n) 0)) 0 ne ∙ i.rest c (omega arith);
-}
 
 -- For each command the numbers with an arrow under it to an element of the set that is no more in the rest.
 pub record Ahead (f able : List ℕ) (set rest : ℕ) : Type 0 where
@@ -61,10 +46,6 @@ ahead_step f able able' set rest u r' i e l m n q = record {
     bit : (c r : ℕ) → c < 26 → has (get_or able' c 0) r ≡ (has (get_or able c 0) r || has (get_or f (u * 26 + c) 0) r)
     bit c r lc = ap (λ (k : ℕ). has k r) (q c lc) ∙ has_or (get_or able c 0) (get_or f (u * 26 + c) 0) r
 
-pub ahead_end : (f able : List ℕ) (set rest : ℕ) → Ahead f able set rest → rest ≡ 0 → (c r : ℕ) → c < 26 → (has (get_or able c 0) r ≡ true) ↔ Into f c set r
-ahead_end f able set rest i z c r l =
-    (i.right c r l, λ x. i.whole c r x.0 l x.2 (ap (λ (n : ℕ). has n x.0) z ∙ has_zero x.0) x.3)
-
 pub total_set : (l : List ℕ) (i v : ℕ) → i < length l → total (set l i v) + get_or l i 0 ≡ total l + v
 total_set [] i v h = absurd (omega arith)
 total_set (x ∷ l) zero v h = omega arith
@@ -78,15 +59,6 @@ pub record Narrowed (r₀ rows : List ℕ) (users able changed rest : ℕ) : Typ
   pub less : total rows + min 1 changed ≤ total r₀
   pub was : (k : ℕ) → has rest k ≡ true → has users k ≡ true
 
-pub narrow_start : (r : List ℕ) (users able : ℕ) → length r ≡ 64 → Narrowed r r users able 0 users
-narrow_start r users able n = record {
-  size = n;
-  each = λ p. let q = not_both (has users p) in simp q;
-  kept = λ p h. refl;
-  less = omega arith;
-  was = λ k e. e;
-}
-
 module _ (r₀ rows : List ℕ) (users able changed rest p r' : ℕ) (i : Narrowed r₀ rows users able changed rest) (e : has rest p ≡ true) (l : p < 64) (m : Less r' rest p) where
   -- p's row is as it was, and p is no more in the rest
   still : get_or rows p 0 ≡ get_or r₀ p 0
@@ -97,18 +69,6 @@ module _ (r₀ rows : List ℕ) (users able changed rest p r' : ℕ) (i : Narrow
 
   others : (k : ℕ) → (k ≡ p → ⊥) → get_or rows k 0 ≡ cond (has users k && not (has r' k)) (bit_and (get_or r₀ k 0) able) (get_or r₀ k 0)
   others k ne = i.each k ∙ ap (λ (b : Bool). cond (has users k && not b) (bit_and (get_or r₀ k 0) able) (get_or r₀ k 0)) (sym (less_other r' rest p m k ne))
-
-  pub narrow_keep : bit_and (get_or rows p 0) able ≡ get_or rows p 0 → Narrowed r₀ rows users able changed r'
-  narrow_keep q = record {
-    size = i.size;
-    each = λ k. ⊎_elim
-        (λ z. subst (λ (n : ℕ). get_or rows n 0 ≡ cond (has users n && not (has r' n)) (bit_and (get_or r₀ n 0) able) (get_or r₀ n 0)) (sym z)
-        (sym q ∙ ap (λ (n : ℕ). bit_and n able) still ∙ sym mine))
-        (λ ne. others k ne) (cases_eq k p);
-    kept = i.kept;
-    less = i.less;
-    was = λ k h. i.was k (less_was r' rest p m k h);
-  }
 
   pub narrow_change : (y : ℕ) → y ≡ 2 ^ p → (bit_and (get_or rows p 0) able ≡ get_or rows p 0 → ⊥) → Narrowed r₀ (set rows p (bit_and (get_or rows p 0) able)) users able (bit_or changed y) r'
   narrow_change y ey ne₀ = record {
@@ -131,13 +91,6 @@ module _ (r₀ rows : List ℕ) (users able changed rest p r' : ℕ) (i : Narrow
       bit : (k : ℕ) → has (bit_or changed y) k ≡ cond (eqb k p) true (has changed k)
       bit k = ap (λ (n : ℕ). has (bit_or changed n) k) ey ∙ has_along changed p k
 
-pub narrow_end : (r₀ rows : List ℕ) (users able changed rest : ℕ) → Narrowed r₀ rows users able changed rest → rest ≡ 0 →
-    (p : ℕ) → get_or rows p 0 ≡ cond (has users p) (bit_and (get_or r₀ p 0) able) (get_or r₀ p 0)
-narrow_end r₀ rows users able changed rest i z p =
-    let n : has rest p ≡ false = ap (λ (m : ℕ). has m p) z ∙ has_zero p in
-    let y : (has users p && true) ≡ has users p = and_yes (has users p) in
-    i.each p ∙ simp (n, y)
-
 one_of : (a b : ℕ) → min 1 (bit_or a b) ≤ min 1 a + min 1 b
 one_of a b =
     ⊎_elim
@@ -151,14 +104,6 @@ pub record Settled (f able r₀ rows : List ℕ) (t n changed : ℕ) : Type 0 wh
   pub pairs : (p r : ℕ) → (bits rows p r ≡ true) ↔ ((bits r₀ p r ≡ true) × ((c : ℕ) → c < n → arc f p c t ≡ true → has (get_or able c 0) r ≡ true))
   pub kept : (p : ℕ) → has changed p ≡ false → get_or rows p 0 ≡ get_or r₀ p 0
   pub less : total rows + min 1 changed ≤ total r₀
-
-pub settle_start : (f able r : List ℕ) (t : ℕ) → length r ≡ 64 → Settled f able r r t 0 0
-settle_start f able r t n = record {
-  size = n;
-  pairs = λ p q. ((λ h. (h, λ c l a. absurd (omega arith))), λ x. x.0);
-  kept = λ p h. refl;
-  less = omega arith;
-}
 
 module _ (f able r₀ rows : List ℕ) (t c changed : ℕ) (i : Settled f able r₀ rows t c changed) (rows' : List ℕ) (d : ℕ) (size : length rows' ≡ 64)
     (each : (p : ℕ) → get_or rows' p 0 ≡ cond (has (get_or f (t * 26 + c) 0) p) (bit_and (get_or rows p 0) (get_or able c 0)) (get_or rows p 0))
@@ -206,12 +151,3 @@ module _ (f able r₀ rows : List ℕ) (t c changed : ℕ) (i : Settled f able r
     kept = λ p h. kept p (parts p h).1 ∙ i.kept p (parts p h).0;
     less = omega (arith, i.less, one_of changed d);
   }
-
--- with the numbers that have an arrow into the set as the able
-pub settle_end : (f able r₀ rows : List ℕ) (t n changed set : ℕ) → Settled f able r₀ rows t n changed → 26 ≤ n → n ≤ 26 →
-    ((c r : ℕ) → c < 26 → (has (get_or able c 0) r ≡ true) ↔ Into f c set r) →
-    (p r : ℕ) → (bits rows p r ≡ true) ↔ ((bits r₀ p r ≡ true) × Matches f t set p r)
-settle_end f able r₀ rows t n changed set i l u h p r = (
-  (λ b. let x = (i.pairs p r).0 b in (x.0, λ c lc a. (h c r lc).0 (x.1 c (omega arith) a))),
-  (λ x. (i.pairs p r).1 (x.0, λ c lc a. (h c r (omega arith)).1 (x.1 c (omega arith) a))),
-)

@@ -1,5 +1,5 @@
 -- The numbering of a comparison: the sets that code makes of two plans' sets, and what exists.
-use Rattle.std.proofs.Common.{◌≡◌, ℕ, ◌+◌, ◌-◌, ◌*◌, ◌/◌, ◌%◌, ◌^◌, ◌<◌, ◌≤◌, Bool, true, false, cond, ◌&&◌, ◌||◌, ltb, leb, List, [], ◌∷◌, sym, refl, ap, ◌∙◌, ⊎_elim, arith, pow_pos, pow_mono}
+use Rattle.std.proofs.Common.{◌≡◌, ℕ, ◌+◌, ◌-◌, ◌*◌, ◌/◌, ◌%◌, ◌^◌, ◌<◌, ◌≤◌, Bool, true, false, cond, ◌&&◌, ◌||◌, ltb, leb, List, [], ◌∷◌, sym, refl, ap, ◌∙◌, ⊎_elim, arith, pow_pos}
 use native.Mathlib.Nat.{div-eq_of_lt}
 use lib.Bits.{bit_or}
 use Rattle.std.proofs.lemmas.Nat.{one_shl}
@@ -35,10 +35,6 @@ has_side a b k ha hb =
     (λ l. rw (lt-leb 32 k l, lt-ltb k 32 l) (or_no (has a k)))
     (λ l. rw (le-leb 32 k l, le-ltb k 32 l, has_past 32 a k ha l) refl)
     (cases_lt k 32)
-
--- the set of the first n numbers as code makes it
-pub first_low : (n : ℕ) → n ≤ 32 → (1 * 2 ^ n) % 2 ^ 64 - 1 < 2 ^ 32
-first_low n h = let e = one_shl n 64 (omega arith) in let q : 2 ^ n ≤ 2 ^ 32 = pow_mono h in omega (arith, pow_pos n)
 
 pub has_first_shl : (n k : ℕ) → n ≤ 32 → has ((1 * 2 ^ n) % 2 ^ 64 - 1) k ≡ ltb k n
 has_first_shl n k h = ap (λ (m : ℕ). has (m - 1) k) (one_shl n 64 (omega arith)) ∙ has_first n k

@@ -54,14 +54,3 @@ pack_same (suc n) x h =
     let a : cond (has x 0) 1 0 ≡ x % 2 = ap (λ (b : Bool). cond b 1 0) (has_zero x) ∙ odd x in
     let b : pack n (λ k. has x (suc k)) ≡ x / 2 = pack_cong n (λ k. has x (suc k)) (has (x / 2)) (λ k _. has_suc x k) ∙ pack_same n (x / 2) (omega (arith, pow-succ' 2 n)) in
     omega (arith, a, b)
-
-pack_false : (n : ℕ) → pack n (λ _. false) ≡ 0
-unfolding pack
-pack_false zero = refl
-pack_false (suc n) = omega (arith, pack_false n)
-
-pub pack_none : (n : ℕ) (p : ℕ → Bool) → ((k : ℕ) → k < n → p k ≡ false) → pack n p ≡ 0
-pack_none n p h = pack_cong n p (λ _. false) h ∙ pack_false n
-
-pub has_none : (k : ℕ) → has 0 k ≡ false
-has_none k = ne_eqb (0 / 2 ^ k % 2) 1 (λ e. omega (arith, native.Mathlib.Nat.zero-div (2 ^ k)))

@@ -31,11 +31,6 @@ pub among_right : (e : ℕ → Bool) (o : ℕ → ℕ → Bool) (p r : ℕ) → 
 unfolding among
 among_right e o p r h = and_left (e p && e r) (o p r) (and_right (e p) (e r) h)
 
--- both exist
-pub among_both : (e : ℕ → Bool) (o : ℕ → ℕ → Bool) (p r : ℕ) → e p ≡ true → e r ≡ true → among e o p r ≡ o p r
-unfolding among
-among_both e o p r ep er = simp (ep, er)
-
 -- a simulation keeps runs
 pub simulation_runs : (N : Nfa) (s : ℕ → ℕ → Bool) → Simulation N s → (w : List ℕ) (p r : ℕ) → s p r ≡ true → LeadsToEnd N p w → LeadsToEnd N r w
 simulation_runs N s k [] p r h x =

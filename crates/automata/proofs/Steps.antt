@@ -1,8 +1,7 @@
 -- A set of states leads where its members lead.
-use Rattle.std.proofs.Common.{◌≡◌, ℕ, zero, suc, ◌+◌, ◌^◌, ◌<◌, ◌≤◌, true, false, cond, not, eqb, ◌↔◌, List, [], ◌∷◌, length, get_or, drop, sym, refl, ap, ◌∙◌, subst, ⊎_elim, add-one, arith}
+use Rattle.std.proofs.Common.{◌≡◌, ℕ, zero, suc, ◌+◌, ◌^◌, ◌<◌, true, false, cond, not, eqb, ◌↔◌, List, [], ◌∷◌, sym, refl, ap, ◌∙◌, subst, ⊎_elim, add-one, arith}
 use lib.Bits.{bit_and, bit_or, or_zero_r, and_le_r}
 use lib.Count.{count_trailing_zeros}
-use Rattle.std.proofs.lemmas.List.{drop_more, drop_all}
 use Rattle.std.proofs.lemmas.Bool.{or_cases, or_left, or_right, and_parts, and_from, cond-true, cond-false, cond_both, cases_lt, cases_eq, both_ways, eqb-false, ne_eqb, not-true, not_from_false}
 use Rattle.automata.specs.Sets.{has}
 use Rattle.automata.specs.Nfa.{Nfa, Proper}
@@ -83,11 +82,6 @@ some_member x l ne = (count_trailing_zeros 32 x, (trailing_has 32 x (positive x 
 pub no_member : (x t : ℕ) → has x t ≡ true → x ≡ 0 → ⊥
 no_member x t h e = both_ways (has 0 t) (has_zero t) (subst (λ (y : ℕ). has y t ≡ true) e h)
 
--- a plan without states permits no run
-pub stateless_permits_none : (A : Nfa) → Proper A → A.count ≡ 0 → (w : List ℕ) → Permits A w → ⊥
-stateless_permits_none A W e w p =
-    no_member A.starts p.0 p.2 (omega (arith, subst (λ (n : ℕ). A.starts < 2 ^ n) e W.starting))
-
 -- one state more, and the loops that follow sets of states
 pub onward_none : (A : Nfa) (x c : ℕ) → onward_from A x c 0 ≡ 0
 unfolding onward_from
@@ -102,12 +96,6 @@ pub onward_same : (A : Nfa) (x c n : ℕ) → has x n ≡ false → onward_from 
 unfolding onward_from
 onward_same A x c n h =
     ap (onward_from A x c) (add-one n) ∙ ap (bit_or (onward_from A x c n)) (cond-false (has x n) (A.targets n c) 0 h) ∙ or_zero_r (onward_from A x c n)
-
-pub led_more : (A : Nfa) (x : ℕ) (w : List ℕ) (i y : ℕ) → i < length w → y ≡ onward A x (get_or w i 0) → led_to A y (drop (i + 1) w) ≡ led_to A x (drop i w)
-led_more A x w i y h e = ap (λ (z : ℕ). led_to A z (drop (i + 1) w)) e ∙ sym (ap (led_to A x) (drop_more w i 0 h))
-
-pub led_all : (A : Nfa) (x : ℕ) (w : List ℕ) (i : ℕ) → length w ≤ i → led_to A x (drop i w) ≡ x
-led_all A x w i h = ap (led_to A x) (drop_all i w h)
 
 -- the test that decides it
 pub permits_decided : (A : Nfa) → Proper A → (w : List ℕ) (x e : ℕ) → x ≡ led_to A A.starts w → e ≡ A.ends → e < 2 ^ 32 →

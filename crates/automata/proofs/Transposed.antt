@@ -1,25 +1,18 @@
 -- The table of sources made from a table of targets.
 use Rattle.std.proofs.Common.{◌≡◌, ℕ, ◌+◌, ◌*◌, ◌^◌, ◌<◌, ◌≤◌, Bool, true, false, cond, not, ◌&&◌, eqb, ltb, ◌≢◌, List, length, get_or, set, sym, refl, ap, ◌∙◌, ⊎_elim, arith, length-set, get_or-set_other, get_or-set_same}
 use lib.Bits.{bit_or}
-use Rattle.std.proofs.lemmas.Bool.{cases_eq, eq-eqb, ne_eqb, lt-ltb, le-ltb, ltb-true, and_left}
+use Rattle.std.proofs.lemmas.Bool.{cases_eq, eq-eqb, ne_eqb, lt-ltb, le-ltb, and_left}
 use Rattle.automata.specs.Sets.{has}
 use Rattle.automata.specs.Relations.{cell, listed}
 use Rattle.automata.specs.Refining.{arc, Sources}
 use Rattle.automata.proofs.Bits.{has_zero, has_along}
-use Rattle.automata.proofs.Elements.{Less, less_was, less_other, less_gone, same_bool, not_both, and_no, and_yes}
+use Rattle.automata.proofs.Elements.{Less, less_was, less_other, less_gone}
 
 -- s noted as a source under c of the targets that are no more in the rest
 pub record Noted (f₀ f : List ℕ) (targets s c rest : ℕ) : Type 0 where
   pub size : length f ≡ 1664
   pub was : (k : ℕ) → has rest k ≡ true → has targets k ≡ true
   pub arcs : (p d t : ℕ) → d < 26 → arc f p d t ≡ cond ((eqb d c && (has targets t && not (has rest t))) && eqb p s) true (arc f₀ p d t)
-
-pub note_start : (f : List ℕ) (targets s c : ℕ) → length f ≡ 1664 → Noted f f targets s c targets
-note_start f targets s c n = record {
-  size = n;
-  was = λ k e. e;
-  arcs = λ p d t l. let q = not_both (has targets t) in let z = and_no (eqb d c) in simp (q, z);
-}
 
 pub note_step : (f₀ f : List ℕ) (targets s c rest u r' y : ℕ) → Noted f₀ f targets s c rest → has rest u ≡ true → u < 64 → c < 26 → Less r' rest u → y ≡ 2 ^ s →
     Noted f₀ (set f (u * 26 + c) (bit_or (get_or f (u * 26 + c) 0) y)) targets s c r'
@@ -58,13 +51,6 @@ note_step f₀ f targets s c rest u r' y i e l lc m q = record {
         let x : t * 26 + d ≡ u * 26 + c = omega arith in
         simp (a, b, g, x) (at p)
 
-pub note_end : (f₀ f : List ℕ) (targets s c rest : ℕ) → Noted f₀ f targets s c rest → rest ≡ 0 →
-    (p d t : ℕ) → d < 26 → arc f p d t ≡ cond ((eqb d c && has targets t) && eqb p s) true (arc f₀ p d t)
-note_end f₀ f targets s c rest i z p d t l =
-    let n : has rest t ≡ false = ap (λ (m : ℕ). has m t) z ∙ has_zero t in
-    let y : (has targets t && true) ≡ has targets t = and_yes (has targets t) in
-    i.arcs p d t l ∙ simp (n, y)
-
 -- the sources noted from the first n places of the table of targets
 abbrev pub Sourced : List ℕ → List ℕ → ℕ → Type 0
 Sourced targets f n = (p d t : ℕ) → d < 26 → arc f p d t ≡ (ltb (p * 26 + d) n && has (get_or targets (p * 26 + d) 0) t)
@@ -80,34 +66,6 @@ pick false = refl
 off : (x b y : Bool) → b ≡ false → cond (x && b) true y ≡ y
 off true b y e = rw e refl
 off false b y e = refl
-
-ltb_next : (m n : ℕ) → (m ≡ n → ⊥) → ltb m (n + 1) ≡ ltb m n
-ltb_next m n ne = same_bool _ _ (λ h. lt-ltb _ _ (omega (arith, ltb-true _ _ h))) (λ h. lt-ltb _ _ (omega (arith, ltb-true _ _ h)))
-
-pub source_step : (targets f f' : List ℕ) (n s c : ℕ) → n ≡ s * 26 + c → c < 26 → Sourced targets f n →
-    ((p d t : ℕ) → d < 26 → arc f' p d t ≡ cond ((eqb d c && has (get_or targets n 0) t) && eqb p s) true (arc f p d t)) → Sourced targets f' (n + 1)
-source_step targets f f' n s c is lc i each p d t ld =
-    each p d t ld ∙
-    ⊎_elim
-    (λ e. ⊎_elim
-    (λ q.
-    let a : eqb d c ≡ true = eq-eqb d c e in
-    let b : eqb p s ≡ true = eq-eqb p s q in
-    let x : n ≡ p * 26 + d = omega arith in
-    let l : ltb (p * 26 + d) (n + 1) ≡ true = lt-ltb _ _ (omega arith) in
-    let m : ltb (p * 26 + d) n ≡ false = le-ltb _ _ (omega arith) in
-    let j : has (get_or targets n 0) t ≡ has (get_or targets (p * 26 + d) 0) t = ap (λ (k : ℕ). has (get_or targets k 0) t) x in
-    let o : arc f p d t ≡ false = i p d t ld ∙ and_left _ (has (get_or targets (p * 26 + d) 0) t) m in
-    simp (a, b, l, o, j) (pick (has (get_or targets (p * 26 + d) 0) t)))
-    (λ nq.
-    let l : ltb (p * 26 + d) (n + 1) ≡ ltb (p * 26 + d) n = ltb_next _ _ (λ z. nq (omega arith)) in
-    off _ _ (arc f p d t) (ne_eqb p s nq) ∙ i p d t ld ∙ ap (λ (x : Bool). x && has (get_or targets (p * 26 + d) 0) t) (sym l))
-    (cases_eq p s))
-    (λ ne.
-    let a : eqb d c ≡ false = ne_eqb d c ne in
-    let l : ltb (p * 26 + d) (n + 1) ≡ ltb (p * 26 + d) n = ltb_next _ _ (λ z. ne (omega arith)) in
-    rw a (i p d t ld ∙ ap (λ (x : Bool). x && has (get_or targets (p * 26 + d) 0) t) (sym l)))
-    (cases_eq d c)
 
 pub cell_known : (table : List ℕ) (s c : ℕ) → c < 26 → cell table s c ≡ get_or table (s * 26 + c) 0
 unfolding cell

@@ -1,7 +1,6 @@
 use Rattle.std.proofs.Common.{◌≡◌, ℕ, zero, suc, ◌+◌, ◌-◌, ◌*◌, ◌^◌, ◌<◌, ◌≤◌, Bool, true, false, cond, ◌&&◌, ltb, List, [], ◌∷◌, ◌++◌, length, get_or, take, drop, sym, refl, ap, ◌∙◌, subst, ap₂, subst₂, inl, inr, ⊎_elim, append_assoc, arith, length-append, get_or-append-add, pow_pos}
 use lib.ListN.{get_or-append}
 use lib.Seq.{take-append_seam, drop-append-add}
-use native.Mathlib.Nat.{sub-zero}
 use Rattle.std.proofs.lemmas.Bool.{cases_eq, cases_lt, and_parts, and_from, lt-ltb, cond-true, and_cases, and_left, and_right, ltb-true, ltb-false, le-ltb, cond-false, cond_both}
 use Rattle.automata.specs.Nfa.{Nfa, Proper}
 use Rattle.automata.specs.Sets.{has, pack}
@@ -9,11 +8,12 @@ use Rattle.automata.specs.Records.{head_record, start_record, end_record, arrow_
 use Rattle.automata.specs.Files.{when, each, arrows, records, joined, file}
 use Rattle.automata.specs.Reading.{cut, stated_count}
 use Rattle.automata.specs.Lookup.{memb, front, arrow_count, key, first_arrow, arrows_between, arrows_at, viewed}
+use Rattle.automata.proofs.Elements.{same_bool}
 use Rattle.automata.proofs.Packs.{pack_cong, pack_lt, pack_same}
 use Rattle.automata.proofs.Lists.{Mem, mem_left, mem_right, mem_cases, memb_mem, mem_memb, Before}
 use Rattle.automata.proofs.Rows.{starts_part, ends_part, arrows_part, in_starts, in_ends, in_arrows, start_mem, end_mem, arrow_mem, asc_arrows}
 use Rattle.automata.proofs.Cuts.{cut_joined}
-use Rattle.automata.proofs.Halves.{halving_range, Boundary, halving_boundary}
+use Rattle.automata.proofs.Halves.{halving_range, Boundary, halving_boundary, same_boundary}
 use Rattle.automata.proofs.Fixed.{at_mem, mem_at, mem_take, mem_drop, mem_part, asc_at, joined_append, Wide, length_joined, drop_joined, take_joined, slice_index_joined}
 use Rattle.automata.proofs.Fronts.{Short, front_joined}
 
@@ -35,12 +35,6 @@ viewed_proper f = record {
 
 byte : {x y : List ℕ} → x ≡ y → (i : ℕ) → get_or x i 0 ≡ get_or y i 0
 byte e i = ap (λ (g : List ℕ). get_or g i 0) e
-
-same_test : (a b : Bool) → (a ≡ true → b ≡ true) → (b ≡ true → a ≡ true) → a ≡ b
-same_test true true f g = refl
-same_test true false f g = sym (f refl)
-same_test false true f g = g refl
-same_test false false f g = refl
 
 -- at most one record for each state
 length_when : (b : Bool) (g : List ℕ) → length (when b g) ≤ 1
@@ -113,7 +107,7 @@ module _ (A : Nfa) where
   -- which records stand in them
   start_test : (s : ℕ) → s < A.count → memb (start_record s) front_part ≡ has A.starts s
   start_test s h =
-      same_test (memb (start_record s) front_part) (has A.starts s)
+      same_bool (memb (start_record s) front_part) (has A.starts s)
       (λ e. ⊎_elim
       (λ q. absurd (omega (arith, byte q 2)))
       (λ m. ⊎_elim
@@ -125,7 +119,7 @@ module _ (A : Nfa) where
 
   end_test : (s : ℕ) → s < A.count → memb (end_record s) front_part ≡ has A.ends s
   end_test s h =
-      same_test (memb (end_record s) front_part) (has A.ends s)
+      same_bool (memb (end_record s) front_part) (has A.ends s)
       (λ e. ⊎_elim
       (λ q. absurd (omega (arith, byte q 2)))
       (λ m. ⊎_elim
@@ -227,7 +221,7 @@ module _ (A : Nfa) (proper : Proper A) where
   arrow_test s c t hs hc ht =
       let lo : ℕ = first_arrow (file A) (s * 256 + c) 0 in
       let hi : ℕ = first_arrow (file A) (s * 256 + c + 1) lo in
-      same_test (memb (arrow_record s c t) (arrows_at (file A) s c)) (has (A.targets s c) t)
+      same_bool (memb (arrow_record s c t) (arrows_at (file A) s c)) (has (A.targets s c) t)
       (λ e.
       let m = subst (Mem (arrow_record s c t)) (arrows_file lo hi) (memb_mem (arrow_record s c t) (arrows_at (file A) s c) e) in
       arrow_has A s c t (mem_drop (arrow_record s c t) lo R (mem_take (arrow_record s c t) (hi - lo) (drop lo R) m)))
@@ -267,20 +261,33 @@ module _ (A : Nfa) (proper : Proper A) where
       λ s c. ap (λ (n : ℕ). cond (ltb s n && ltb c 26) (pack n (λ t. memb (arrow_record s c t) (arrows_at (file A) s c))) 0) count_file ∙ targets_file s c in
       λ i. record { count = count_file i; starts = st i; ends = en i; targets = λ s c. ta s c i }
 
+-- of bytes that are the file of the plan that is read off them, the keys ascend, so that a search finds their boundary
+module _ (f : List ℕ) (w : file (viewed f) ≡ f) where
+  pub keys_in_order : (i j : ℕ) → i ≤ j → j < arrow_count f → key f i ≤ key f j
+  keys_in_order i j l h =
+      subst (λ (g : List ℕ). key g i ≤ key g j) w
+      (key_ascends (viewed f) (viewed_proper f) i j l (omega (arith, arrow_count_file (viewed f) (viewed_proper f), ap arrow_count w)))
+
+  pub boundary_found : (k lo r : ℕ) → lo ≤ arrow_count f → ((i : ℕ) → i < lo → key f i < k) → r ≤ arrow_count f →
+      Boundary (key f) (arrow_count f) k r → r ≡ first_arrow f k lo
+  boundary_found k lo r h below l b =
+      same_boundary (key f) (arrow_count f) k r (first_arrow f k lo) l
+      (halving_range (arrow_count f - lo) (key f) k lo (arrow_count f) h).1 b
+      (halving_boundary (arrow_count f - lo) (key f) (arrow_count f) k lo (arrow_count f) keys_in_order (omega arith) h (omega arith) below
+      (λ i a c. absurd (omega arith)))
+
 -- the four answers that are read off the bytes, each from the part of them that it needs
 pub viewed_count : (f : List ℕ) → (viewed f).count ≡ stated_count f
 unfolding viewed
 viewed_count f = refl
 
-pub viewed_starts : (f : List ℕ) (n at : ℕ) → n ≡ stated_count f → at ≡ front f → pack n (λ k. memb (start_record k) (cut (take (at - 0) f))) ≡ (viewed f).starts
+pub viewed_starts : (f : List ℕ) → pack (stated_count f) (λ k. memb (start_record k) (cut (take (front f) f))) ≡ (viewed f).starts
 unfolding viewed
-viewed_starts f n at e h =
-    ap₂ (λ (m a : ℕ). pack m (λ k. memb (start_record k) (cut (take a f)))) e (sub-zero at ∙ h)
+viewed_starts f = refl
 
-pub viewed_ends : (f : List ℕ) (n at : ℕ) → n ≡ stated_count f → at ≡ front f → pack n (λ k. memb (end_record k) (cut (take (at - 0) f))) ≡ (viewed f).ends
+pub viewed_ends : (f : List ℕ) → pack (stated_count f) (λ k. memb (end_record k) (cut (take (front f) f))) ≡ (viewed f).ends
 unfolding viewed
-viewed_ends f n at e h =
-    ap₂ (λ (m a : ℕ). pack m (λ k. memb (end_record k) (cut (take a f)))) e (sub-zero at ∙ h)
+viewed_ends f = refl
 
 pub viewed_targets : (f : List ℕ) (n s c : ℕ) (g : List ℕ) → n ≡ stated_count f → s < n → c < 26 → cut g ≡ arrows_at f s c →
     pack n (λ k. memb (arrow_record s c k) (cut g)) ≡ (viewed f).targets s c

@@ -1,5 +1,5 @@
 /// One step of drawing a plan.
-#[derive(Clone, Copy)]
+#[derive(Clone, Copy, Debug, PartialEq, Eq)]
 pub enum Drawing {
     /// A new state.
     State,

@@ -1,3 +1,4 @@
+use crate::outcome::by_values;
 use order::laws::test;
 use plan::refusal::Refusal;
 use plan::table::Table;
@@ -16,44 +17,33 @@ fn fork() -> Result<Table, Refusal> {
     Ok(table)
 }
 
-/// What the test answers for rows 0 to 3 with these pairs, and the same row for every other number: the refusal's
-/// number, or 0, and its values.
-fn answer(first: [u64; 4], others: u64) -> (u8, [usize; 4]) {
-    let Ok(fork) = fork() else {
-        return (255, [0; 4]);
-    };
+/// What the test answers for rows 0 to 3 with these pairs, and the same row for every other number.
+fn answer(first: [u64; 4], others: u64) -> Result<(), (u8, [usize; 4])> {
+    let fork = by_values(fork())?;
     let mut rows = [others; 64];
-    rows[0] = first[0];
-    rows[1] = first[1];
-    rows[2] = first[2];
-    rows[3] = first[3];
-    match test(&fork, &Table::new(), &rows) {
-        Ok(()) => (0, [0; 4]),
-        Err(refusal) => {
-            let (values, _) = refusal.values();
-            (refusal.number(), values)
-        }
-    }
+    rows[..4].copy_from_slice(&first);
+    by_values(test(&fork, &Table::new(), &rows))
 }
 
 #[test]
 fn accepted_orders(rt: HostRuntime) {
-    assert!(rt; answer([1, 2, 4, 8], 0) == (0, [0, 0, 0, 0]));
-    assert!(rt; answer([1, 6, 4, 8], 0) == (0, [0, 0, 0, 0]));
-    assert!(rt;
-        answer([1, 2, 4, 8], 7).0 == 0,
+    assert_eq!(rt; answer([1, 2, 4, 8], 0), Ok(()));
+    assert_eq!(rt; answer([1, 6, 4, 8], 0), Ok(()));
+    assert_eq!(rt;
+        answer([1, 2, 4, 8], 7),
+        Ok(()),
         "pairs of states that do not exist are not looked at"
     );
 }
 
 #[test]
 fn broken_laws(rt: HostRuntime) {
-    assert!(rt; answer([0, 2, 4, 8], 0) == (6, [0, 0, 0, 0]));
-    assert!(rt; answer([1, 2, 4, 7], 0) == (6, [3, 0, 0, 0]));
-    assert!(rt; answer([3, 6, 4, 8], 0) == (7, [0, 1, 2, 0]));
-    assert!(rt; answer([1, 6, 12, 8], 0) == (7, [1, 2, 3, 0]));
-    assert!(rt; answer([1, 2, 4, 9], 0) == (8, [3, 0, 0, 0]));
-    assert!(rt; answer([1, 2, 4, 12], 0) == (8, [3, 2, 0, 0]));
-    assert!(rt; answer([3, 2, 4, 8], 0) == (9, [0, 1, 0, 1]));
-    assert!(rt; answer([1, 2, 6, 8], 0) == (9, [2, 1, 0, 3]));
+    assert_eq!(rt; answer([0, 2, 4, 8], 0), Err((6, [0, 0, 0, 0])));
+    assert_eq!(rt; answer([1, 2, 4, 7], 0), Err((6, [3, 0, 0, 0])));
+    assert_eq!(rt; answer([3, 6, 4, 8], 0), Err((7, [0, 1, 2, 0])));
+    assert_eq!(rt; answer([1, 6, 12, 8], 0), Err((7, [1, 2, 3, 0])));
+    assert_eq!(rt; answer([1, 2, 4, 9], 0), Err((8, [3, 0, 0, 0])));
+    assert_eq!(rt; answer([1, 2, 4, 12], 0), Err((8, [3, 2, 0, 0])));
+    assert_eq!(rt; answer([3, 2, 4, 8], 0), Err((9, [0, 1, 0, 1])));
+    assert_eq!(rt; answer([1, 2, 6, 8], 0), Err((9, [2, 1, 0, 3])));
 }

@@ -9,6 +9,8 @@ mod files;
 #[cfg(test)]
 mod laws;
 #[cfg(test)]
+mod outcome;
+#[cfg(test)]
 mod releases;
 #[cfg(test)]
 mod statements;

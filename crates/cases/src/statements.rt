@@ -2,6 +2,7 @@ use plan::refusal::Refusal;
 use plan::table::Table;
 use script::search_statement::{SearchStatement, parse_search};
 use script::statement::{Statement, parse};
+use script::terms::Terms;
 use search::pair::Pair;
 use std::test::Fail;
 use walk::slot::{Mark, Slot};
@@ -9,7 +10,7 @@ use wording::answer::{Answer, word_answer, word_file};
 use wording::draw::draw;
 use wording::echo::echo;
 use wording::notice::{Notice, word_notice};
-use wording::slots::{word_pair_slots, word_set_slots};
+use wording::slots::word_slots;
 use wording::verdict::word_search;
 
 #[test]
@@ -26,8 +27,8 @@ fn answers_are_worded(rt: HostRuntime) -> Result<(), Fail> {
         Answer::UnknownPlan,
     ];
     let mut out = Vec::new(rt.alloc());
-    for answer in answers.iter() {
-        word_answer(&mut out, *answer)?;
+    for answer in answers {
+        word_answer(&mut out, answer)?;
         out.push(b'\n')?;
     }
     let text: &[u8] =
@@ -78,8 +79,8 @@ fn statements_are_parsed(rt: HostRuntime) {
             })
         )
     );
-    assert!(rt; matches!(parse(b"show 256"), None));
-    assert!(rt; matches!(parse(b"plan p 0"), None));
+    assert!(rt; parse(b"show 256").is_none());
+    assert!(rt; parse(b"plan p 0").is_none());
 }
 
 #[test]
@@ -88,8 +89,11 @@ fn searches_are_parsed(rt: HostRuntime) {
         matches!(
             parse_search(b"compare-plans p r same 7"),
             Some(SearchStatement::ComparePlans {
-                slots: 7,
-                bytes: 7,
+                terms: Terms {
+                    slots: 7,
+                    bytes: 7,
+                    ..
+                },
                 ..
             })
         )
@@ -99,40 +103,40 @@ fn searches_are_parsed(rt: HostRuntime) {
             parse_search(b"open-plan r 255 greatest 18446744073709551615 0"),
             Some(SearchStatement::OpenPlan {
                 commands: 255,
-                slots: 18_446_744_073_709_551_615,
-                bytes: 0,
+                terms: Terms {
+                    slots: 18_446_744_073_709_551_615,
+                    bytes: 0,
+                    ..
+                },
                 ..
             })
         )
     );
-    assert!(rt; matches!(parse_search(b"open-plan r 256 same 1"), None));
-    assert!(rt;
-        matches!(
-            parse_search(b"compare-plans p r same 18446744073709551616"),
-            None
-        )
-    );
-    assert!(rt; matches!(parse_search(b"compare-plans p r same"), None));
+    assert!(rt; parse_search(b"open-plan r 256 same 1").is_none());
+    assert!(rt; parse_search(b"compare-plans p r same 18446744073709551616").is_none());
+    assert!(rt; parse_search(b"compare-plans p r same").is_none());
     assert!(rt;
         matches!(
             parse_search(b"open 26 delivered 4096 4095"),
             Some(SearchStatement::Open {
                 commands: 26,
-                slots: 4096,
-                bytes: 4095,
-                ..
+                terms: Terms {
+                    slots: 4096,
+                    bytes: 4095,
+                    ..
+                },
             })
         )
     );
-    assert!(rt; matches!(parse_search(b"compare p r same 7"), None));
+    assert!(rt; parse_search(b"compare p r same 7").is_none());
     assert!(rt;
         matches!(
             parse_search(b"draw 1"),
             Some(SearchStatement::DrawSide { side: 1 })
         )
     );
-    assert!(rt; matches!(parse_search(b"release now"), None));
-    assert!(rt; matches!(parse_search(b"slots 1"), None));
+    assert!(rt; parse_search(b"release now").is_none());
+    assert!(rt; parse_search(b"slots 1").is_none());
 }
 
 #[test]
@@ -189,9 +193,9 @@ fn slots_are_worded(rt: HostRuntime) -> Result<(), Fail> {
         mark: Mark::Waiting,
     };
     let mut out = Vec::new(rt.alloc());
-    word_pair_slots(&mut out, &[pair])?;
+    word_slots(&mut out, &[pair])?;
     out.push(b'\n')?;
-    word_set_slots(&mut out, &[set, set])?;
+    word_slots(&mut out, &[set, set])?;
     let text: &[u8] =
         b"1 stored\n  0 pair 3 {1 2} depth 1 parent 0 command 12 withdrawn\n2 stored\n  0 set {} depth 0 parent 65535 command 255 waiting\n  1 set {} depth 0 parent 65535 command 255 waiting";
     assert!(rt; out.as_slice() == text);

@@ -1,10 +1,8 @@
-use crate::orders::rows_by;
-use crate::outcomes::word_outcome;
-use crate::searches::{Stored, Terms, word_found};
-use guard::call::{Answer as Told, Call};
+use crate::outcomes::{word_number, word_outcome, word_release};
+use crate::searches::{Stored, make};
+use guard::call::{Answer as Told, Call, SearchTerms};
 use guard::guard::Guard;
 use guard::replay::replay;
-use order::greatest::rank;
 use plan::refusal::Refusal;
 use plan::table::Table;
 use std::alloc::{AllocError, Global};
@@ -15,6 +13,7 @@ use wording::verdict::word_search;
 /// The guard of a script, the calls that were made on it, and what was answered to them, line by line.
 #[derive(Drop)]
 pub(crate) struct Guarded {
+    heap: Global,
     guard: Guard,
     calls: Vec<Call>,
     told: Vec<u8>,
@@ -24,10 +23,16 @@ impl Guarded {
     /// A blank guard.
     pub(crate) fn new(heap: Global) -> Guarded {
         Guarded {
+            heap,
             guard: Guard::new(),
             calls: Vec::new(heap),
             told: Vec::new(heap),
         }
+    }
+
+    /// The guard as it stands.
+    pub(crate) fn guard(&self) -> &Guard {
+        &self.guard
     }
 
     /// The plan of a side.
@@ -39,42 +44,16 @@ impl Guarded {
         }
     }
 
-    /// The programme as it is drawn.
-    pub(crate) fn programme(&self) -> &Table {
-        self.guard.programme()
-    }
-
-    /// The rule as it is drawn.
-    pub(crate) fn rule(&self) -> &Table {
-        self.guard.rule()
-    }
-
-    /// The greatest order of the two sides.
-    pub(crate) fn rank(&self) -> [u64; 64] {
-        self.guard.rank()
-    }
-
-    /// Notes a call and its answer, and appends the answer to `out`.
-    fn note(&mut self, call: Call, text: &[u8], out: &mut Vec<u8>) -> Result<(), AllocError> {
-        self.calls.push(call)?;
-        self.told.extend_from_slice(text)?;
-        self.told.push(b'\n')?;
-        out.extend_from_slice(text)
-    }
-
-    /// Makes a call that draws or asks for release, and answers it.
+    /// Makes a call, appends its answer to `out`, and notes both. A search that is not refused leaves what it stored.
     pub(crate) fn work(
         &mut self,
-        heap: Global,
         call: Call,
+        stored: &mut Option<Stored>,
         out: &mut Vec<u8>,
     ) -> Result<(), AllocError> {
-        let mut text = Vec::new(heap);
+        let mut text = Vec::new(self.heap);
         match call {
-            Call::State { side } => match self.guard.state(side) {
-                Ok(number) => word_answer(&mut text, Answer::Number(number))?,
-                Err(refusal) => word_answer(&mut text, Answer::Refused(refusal))?,
-            },
+            Call::State { side } => word_number(&mut text, self.guard.state(side))?,
             Call::Start { side, state } => word_outcome(&mut text, self.guard.start(side, state))?,
             Call::End { side, state } => word_outcome(&mut text, self.guard.end(side, state))?,
             Call::Arrow {
@@ -89,84 +68,65 @@ impl Guarded {
                 command,
                 to,
             } => word_outcome(&mut text, self.guard.lift(side, from, command, to))?,
-            Call::Release => match self.guard.release() {
-                Ok(()) => word_notice(&mut text, Notice::Granted)?,
-                Err(refusal) => word_answer(&mut text, Answer::Refused(refusal))?,
-            },
-            Call::Compare { .. } | Call::Open { .. } => word_answer(&mut text, Answer::Malformed)?,
+            Call::Compare { terms } => self.compare(&terms, stored, &mut text)?,
+            Call::Open { commands, terms } => self.open(commands, &terms, stored, &mut text)?,
+            Call::Release => word_release(&mut text, self.guard.release())?,
         }
         self.note(call, text.as_slice(), out)
     }
 
-    /// Compares the two sides, answers what came out, and keeps what was stored.
-    pub(crate) fn compare(
-        &mut self,
-        heap: Global,
-        terms: Terms,
-        delivered: &[u64; 64],
-        stored: &mut Stored,
-        out: &mut Vec<u8>,
-    ) -> Result<(), AllocError> {
-        let order = rows_by(
-            terms.order,
-            self.guard.programme(),
-            self.guard.rule(),
-            delivered,
-        );
-        let mut slots = terms.pair_slots(heap)?;
-        let mut run = terms.run(heap)?;
-        let outcome = self
-            .guard
-            .compare(&order, slots.as_mut_slice(), run.as_mut_slice());
-        let mut text = Vec::new(heap);
-        word_found(&mut text, outcome, run.as_slice())?;
-        stored.keep_pairs(slots, outcome);
-        let call = Call::Compare {
-            order,
-            slots: terms.slots,
-            bytes: terms.bytes,
-        };
-        self.note(call, text.as_slice(), out)
+    /// Notes a call and its answer, and appends the answer to `out`.
+    fn note(&mut self, call: Call, text: &[u8], out: &mut Vec<u8>) -> Result<(), AllocError> {
+        self.calls.push(call)?;
+        self.told.extend_from_slice(text)?;
+        self.told.push(b'\n')?;
+        out.extend_from_slice(text)
     }
 
-    /// Asks whether the rule is open for so many commands, likewise. The greatest order is that beside no programme.
-    pub(crate) fn open(
+    /// Compares the two sides.
+    fn compare(
         &mut self,
-        heap: Global,
-        commands: u8,
-        terms: Terms,
-        delivered: &[u64; 64],
-        stored: &mut Stored,
-        out: &mut Vec<u8>,
+        terms: &SearchTerms,
+        stored: &mut Option<Stored>,
+        text: &mut Vec<u8>,
     ) -> Result<(), AllocError> {
-        let order = rows_by(terms.order, &Table::new(), self.guard.rule(), delivered);
-        let mut slots = terms.set_slots(heap)?;
-        let mut run = terms.run(heap)?;
-        let outcome = self
-            .guard
-            .open(commands, &order, slots.as_mut_slice(), run.as_mut_slice());
-        let mut text = Vec::new(heap);
-        word_found(&mut text, outcome, run.as_slice())?;
-        stored.keep_sets(slots, outcome);
-        let call = Call::Open {
-            commands,
-            order,
-            slots: terms.slots,
-            bytes: terms.bytes,
-        };
-        self.note(call, text.as_slice(), out)
+        let guard = &mut self.guard;
+        let made = make(self.heap, terms.slots, terms.bytes, |slots, run| {
+            guard.compare(&terms.order, slots, run)
+        })?;
+        if let Some(slots) = made.word(text)? {
+            *stored = Some(Stored::Pairs(slots));
+        }
+        Ok(())
+    }
+
+    /// Asks whether the rule is open for so many commands.
+    fn open(
+        &self,
+        commands: u8,
+        terms: &SearchTerms,
+        stored: &mut Option<Stored>,
+        text: &mut Vec<u8>,
+    ) -> Result<(), AllocError> {
+        let made = make(self.heap, terms.slots, terms.bytes, |slots, run| {
+            self.guard.open(commands, &terms.order, slots, run)
+        })?;
+        if let Some(slots) = made.word(text)? {
+            *stored = Some(Stored::Sets(slots));
+        }
+        Ok(())
     }
 
     /// Works all calls through once more on a blank guard: whether they are answered as they were.
-    pub(crate) fn is_confirmed(&self, heap: Global) -> Result<bool, AllocError> {
-        let mut answers = vec![in heap; Told::Done; self.calls.len()]?;
+    pub(crate) fn is_confirmed(&self) -> Result<bool, AllocError> {
+        let mut answers = vec![in self.heap; Told::Done; self.calls.len()]?;
         replay(self.calls.as_slice(), answers.as_mut_slice());
-        let mut told = Vec::new(heap);
+        let mut told = Vec::new(self.heap);
         for answer in answers.iter() {
             word_told(&mut told, answer)?;
             told.push(b'\n')?;
         }
-        Ok(told.as_slice() == self.told.as_slice())
+        Ok(told == self.told)
     }
 }
 

@@ -3,8 +3,6 @@
 //! `console draw PLAN` prints one for a picture.
 #![tactic(auto)]
 
-ghost use Rattle.std.specs.Prelude.{◌<◌, length};
-
 mod files;
 mod guarded;
 mod orders;
@@ -30,11 +28,7 @@ fn main(rt: HostRuntime) -> anyhow::Result<()> {
 
 /// The arguments behind the program's own name.
 fn arguments(rt: &HostRuntime) -> anyhow::Result<Vec<String>> {
-    let mut words = Vec::new(rt.alloc());
-    for word in env::args(rt)?.skip(1) {
-        words.push(word)?;
-    }
-    Ok(words)
+    Ok(env::args(rt)?.skip(1).collect(rt.alloc())?)
 }
 
 /// All of standard input.
@@ -51,60 +45,29 @@ fn run(rt: &HostRuntime) -> anyhow::Result<bool> {
         [] => work(rt, input(rt)?.as_slice()),
         [path] => work(rt, fs::read(rt, path.as_str())?.as_slice()),
         [verb, plan] if verb.as_str() == "draw" => draw_file(rt, plan.as_str()),
-        [verb, programme, rule] if verb.as_str() == "compare" => compare_files(
-            rt,
-            programme.as_str(),
-            rule.as_str(),
-            "greatest",
-            "4096",
-        ),
-        [verb, programme, rule, order] if verb.as_str() == "compare" => compare_files(
-            rt,
-            programme.as_str(),
-            rule.as_str(),
-            order.as_str(),
-            "4096",
-        ),
-        [verb, programme, rule, order, slots] if verb.as_str() == "compare" => compare_files(
-            rt,
-            programme.as_str(),
-            rule.as_str(),
-            order.as_str(),
-            slots.as_str(),
-        ),
+        [verb, programme, rule, rest @ ..] if verb.as_str() == "compare" && rest.len() <= 2 => {
+            let order = rest.first().map_or("greatest", |order| order.as_str());
+            let slots = rest.get(1).map_or("4096", |slots| slots.as_str());
+            compare_files(rt, programme.as_str(), rule.as_str(), order, slots)
+        }
         _ => Err(anyhow!(
             "console takes one argument at most, the path of a script; or compare PROGRAMME RULE [ORDER] [SLOTS]; or draw PLAN"
         )),
     }
 }
 
-/// The first line of the text, and what follows its line feed.
-fn first_line(text: &[u8]) -> (&[u8], &[u8])
-    ensures { 0 < length text.now → length result.1.now < length text.now }
-{
-    for (i, b) in text.iter().enumerate() {
-        if *b == b'\n' {
-            return (&text[0..i], &text[i + 1..]);
-        }
-    }
-    (text, &text[text.len()..])
-}
-
 /// Works a script through, line by line, and prints each answer before the next line is looked at. At the end all calls
 /// on the guard are worked through once more, and held against what was answered.
 fn work(rt: &HostRuntime, script: &[u8]) -> anyhow::Result<bool> {
     let heap = rt.alloc();
-    let mut left = script;
     let mut session = Session::new(heap);
     let mut answer = Vec::new(heap);
-    while !left.is_empty() {
-        let (line, rest) = first_line(left);
+    for line in script.split(|b| *b == b'\n') {
         answer.clear();
-        session.work(heap, line, &mut answer)?;
+        session.work(line, &mut answer)?;
         rt.stdout().write_all(answer.as_slice())?;
-        left = rest;
     }
-    if session.is_confirmed(heap)? {
+    if session.is_confirmed()? {
         Ok(true)
     } else {
         Err(anyhow!("the calls on the guard, worked through once more, were answered otherwise"))

@@ -82,16 +82,16 @@ module _ {I : Type 0} (K : Kind I) (y : Option Report) (before later : List (Slo
 
 -- A search over the first u of 4,096 slots and the first v of 4,096 zeros is the listed one.
 module _ (g h : Guard) (q : Question) (o : ℕ → ℕ → Bool) (slots bytes u v : ℕ) (store later : List (Slot (Item q))) (zeros run : List ℕ) (r : Result (ℕ × ℕ × ℕ) Refusal)
-    (many : length store ≡ 4096) (all-zeros : zeros ≡ replicate 4096 0) (some-slots : u ≡ usable_of slots) (some_bytes : v ≡ usable_of bytes) (long : length run ≡ length (take (v - 0) zeros))
-    (searched : Searched (kind_of q g.plans o) (search_refusal q g.plans o (length (take (v - 0) zeros)) (usable (take (u - 0) store))) r (take (u - 0) store) later (take (v - 0) zeros) run) where
+    (many : length store ≡ 4096) (all-zeros : zeros ≡ replicate 4096 0) (some-slots : u ≡ usable_of slots) (some_bytes : v ≡ usable_of bytes) (long : length run ≡ length (take v zeros))
+    (searched : Searched (kind_of q g.plans o) (search_refusal q g.plans o (length (take v zeros)) (usable (take u store))) r (take u store) later (take v zeros) run) where
   zeros_long : length zeros ≡ 4096
   zeros_long = ap length all-zeros ∙ length-replicate {A = ℕ} 4096 0
 
-  pub listed_step : (a : Answer) → a ≡ as_found r (run ++ drop (v - 0) zeros) → ◌≡◌ {A = Guard × Answer} (h, as_found r run) (step g (Search q o (length (take (u - 0) store)) (length (take (v - 0) zeros)))) →
+  pub listed_step : (a : Answer) → a ≡ as_found r (run ++ drop v zeros) → ◌≡◌ {A = Guard × Answer} (h, as_found r run) (step g (Search q o (length (take u store)) (length (take v zeros)))) →
       ◌≡◌ {A = Guard × Answer} (h, a) (step g (Search q o slots bytes))
   listed_step a e s =
-      ap {B = Guard × Answer} (λ (a : Answer). (h, a)) (e ∙ found_front (kind_of q g.plans o) _ (take (u - 0) store) later (take (v - 0) zeros) run (drop (v - 0) zeros) long r searched) ∙ s ∙
-      same_step g q o slots (length (take (u - 0) store)) bytes (length (take (v - 0) zeros)) (omega (arith, length-take (u - 0) store)) (omega (arith, length-take (v - 0) zeros, zeros_long))
+      ap {B = Guard × Answer} (λ (a : Answer). (h, a)) (e ∙ found_front (kind_of q g.plans o) _ (take u store) later (take v zeros) run (drop v zeros) long r searched) ∙ s ∙
+      same_step g q o slots (length (take u store)) bytes (length (take v zeros)) (omega (arith, length-take u store)) (omega (arith, length-take v zeros, zeros_long))
 
-  pub listed_clear : IfOk r (λ a. drop a.1 (run ++ drop (v - 0) zeros) ≡ replicate (4096 - a.1) 0)
-  listed_clear = clear_behind (kind_of q g.plans o) _ (take (u - 0) store) later (take (v - 0) zeros) run (drop (v - 0) zeros) long r searched (take-append-drop (v - 0) zeros ∙ all-zeros)
+  pub listed_clear : IfOk r (λ a. drop a.1 (run ++ drop v zeros) ≡ replicate (4096 - a.1) 0)
+  listed_clear = clear_behind (kind_of q g.plans o) _ (take u store) later (take v zeros) run (drop v zeros) long r searched (take-append-drop v zeros ∙ all-zeros)

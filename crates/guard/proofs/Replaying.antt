@@ -14,9 +14,8 @@ use Rattle.guard.specs.declared.call.Call.{Call}
 use Rattle.guard.specs.declared.call.Answer.{Answer}
 use Rattle.guard.specs.Meanings.{call_of, answer_of, Clear}
 
--- i calls have led to the guard g, and their answers stand in front of the answers; what is behind is as it was
-pub record At (g : Guard) (cs : List Call) (before later : List Answer) (n i : ℕ) : Type 0 where
-  pub place : n ≡ i
+-- n calls have led to the guard g, and their answers stand in front of the answers; what is behind is as it was
+pub record At (g : Guard) (cs : List Call) (before later : List Answer) (n : ℕ) : Type 0 where
   pub room : n ≤ length later
   pub there : n ≤ length cs
   pub guard : g ≡ fold move blank_guard (take n (map call_of cs))
@@ -24,14 +23,10 @@ pub record At (g : Guard) (cs : List Call) (before later : List Answer) (n i : �
   pub clear : All Clear (take n later)
   pub kept : drop n later ≡ drop n before
 
-pub at_start : (g : Guard) (cs : List Call) (before : List Answer) → g ≡ blank_guard → At g cs before before 0 0
-at_start g cs before e = record { place = refl; room = omega arith; there = omega arith; guard = e; answered = refl; clear = tt; kept = refl }
-
 -- one call more
-pub at_next : (g h : Guard) (cs : List Call) (before later : List Answer) (n i : ℕ) (d : Call) (a : Answer) → n < length cs → n < length later → At g cs before later n i →
-    ◌≡◌ {A = Guard × calls.Answer} (h, answer_of a) (step g (call_of (get_or cs i d))) → Clear a → At h cs before (set later n a) (n + 1) (i + 1)
-at_next g h cs before later n i d a l m q s z = record {
-  place = ap (λ (k : ℕ). k + 1) q.place;
+pub at_next : (g h : Guard) (cs : List Call) (before later : List Answer) (n : ℕ) (d : Call) (a : Answer) → n < length cs → n < length later → At g cs before later n →
+    ◌≡◌ {A = Guard × calls.Answer} (h, answer_of a) (step g (call_of (get_or cs n d))) → Clear a → At h cs before (set later n a) (n + 1)
+at_next g h cs before later n d a l m q s z = record {
   room = simp length-set (omega arith);
   there = omega arith;
   guard = subst (λ (k : ℕ). h ≡ fold move blank_guard (take k (map call_of cs))) next (ap (λ (r : Guard × calls.Answer). r.0) stepped ∙ sym (fold_next move blank_guard (map call_of cs) n calls.Release long));
@@ -51,12 +46,12 @@ at_next g h cs before later n i d a l m q s z = record {
     long : n < length (map call_of cs)
     long = subst (λ (k : ℕ). n < k) (sym (length-map cs call_of)) l
 
-    called : get_or (map call_of cs) n calls.Release ≡ call_of (get_or cs i d)
-    called = get_or-map call_of cs n d calls.Release l ∙ ap (λ (k : ℕ). call_of (get_or cs k d)) q.place
+    called : get_or (map call_of cs) n calls.Release ≡ call_of (get_or cs n d)
+    called = get_or-map call_of cs n d calls.Release l
 
     stepped : ◌≡◌ {A = Guard × calls.Answer} (h, answer_of a) (step (fold move blank_guard (take n (map call_of cs))) (get_or (map call_of cs) n calls.Release))
-    stepped = s ∙ ap (λ (g : Guard). step g (call_of (get_or cs i d))) q.guard ∙ ap (step (fold move blank_guard (take n (map call_of cs)))) (sym called)
+    stepped = s ∙ ap (λ (g : Guard). step g (call_of (get_or cs n d))) q.guard ∙ ap (step (fold move blank_guard (take n (map call_of cs)))) (sym called)
 
 -- the whole promise of the calls that were worked through
-pub at_promise : (g : Guard) (cs : List Call) (before later : List Answer) (n i : ℕ) → At g cs before later n i → WholePromise (take n (map call_of cs)) (map answer_of (take n later))
-at_promise g cs before later n i q = subst (WholePromise (take n (map call_of cs))) (sym q.answered) (whole_promise (take n (map call_of cs)))
+pub at_promise : (g : Guard) (cs : List Call) (before later : List Answer) (n : ℕ) → At g cs before later n → WholePromise (take n (map call_of cs)) (map answer_of (take n later))
+at_promise g cs before later n q = subst (WholePromise (take n (map call_of cs))) (sym q.answered) (whole_promise (take n (map call_of cs)))

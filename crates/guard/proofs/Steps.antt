@@ -1,24 +1,24 @@
 -- A step of the guard, from what a search did.
-use Rattle.std.proofs.Common.{◌≡◌, ℕ, Bool, List, length, take, Ok, Err, Result, sym, refl, ap, ◌∙◌, arith}
+use Rattle.std.proofs.Common.{rules, ◌≡◌, ℕ, zero, suc, Bool, List, length, take, Ok, Err, Result, sym, refl, ap, ◌∙◌}
 use mathlib.Core.Option.{Option, none, some}
 use Rattle.walk.specs.declared.slot.Slot.{Slot}
 use Rattle.walk.specs.Kinds.{Kind}
 use Rattle.walk.specs.Walks.{walk}
 use Rattle.walk.specs.Answers.{usable, Leaves}
+use Rattle.walk.specs.declared.verdict.Verdict.{Verdict}
+use Rattle.walk.specs.Verdicts.{verdict_of}
 use Rattle.walk.proofs.Leaving.{run_is}
 use Rattle.automata.specs.Drawing.{Report}
 use Rattle.plan.specs.declared.refusal.Refusal.{Refusal}
-use Rattle.plan.specs.declared.refusal.Refusal.TheVariants.{NotCompared, ComparisonFailed, ComparisonFull}
 use Rattle.plan.specs.Refusals.{report_of}
 use Rattle.search.specs.declared.pair.Pair.{Pair}
 use Rattle.search.specs.Answering.{Searched}
 use Rattle.calls.specs.declared.standing.Standing.{Standing}
-use Rattle.calls.specs.declared.standing.Standing.TheVariants.{Drawn, Passed, Failed, Full}
-use Rattle.calls.specs.Calls.{Question, Compare, Open, Call, Search, Release, Found, Answer, found, granted, refused}
+use Rattle.calls.specs.Calls.{Question, Compare, Open, Call, Search, Found, Answer, found, refused}
 use Rattle.calls.specs.Plans.{refusal, search_refusal}
-use Rattle.calls.specs.Guards.{Guard, Item, kind_of, walked, by_verdict, stood, released, taken, step}
+use Rattle.calls.specs.Guards.{Guard, Item, kind_of, walked, by_verdict, stood, taken, step}
 use Rattle.guard.specs.declared.transition.Event.TheVariants as event
-use Rattle.guard.specs.Transitions.{release_from, followed}
+use Rattle.guard.specs.Transitions.{standing_by, followed}
 use Rattle.guard.specs.Meanings.{as_found}
 
 -- a call that is refused leaves the guard as it is
@@ -57,12 +57,18 @@ module _ (g : Guard) (q : Question) (o : ℕ → ℕ → Bool) (before later : L
       ap {B = Guard × Answer} (λ (f : Found). (record { plans = g.plans; standing = stood q g.standing f }, found f)) f ∙
       ap (λ (y : Option Report). taken y g asked) (sym s.0)
 
+-- the number of a verdict sets the standing that the verdict sets
+same_standing : (n : ℕ) → standing_by (verdict_of n) ≡ by_verdict n
+same_standing zero = refl
+same_standing (suc zero) = refl
+same_standing (suc (suc n)) = search rules
+
 -- a comparison sets the standing to its verdict
-pub compare_step : (g : Guard) (o : ℕ → ℕ → Bool) (before later : List (Slot Pair)) (before-run run : List ℕ) (a : ℕ × ℕ × ℕ) (z : Standing) → Ok z ≡ followed g.standing (event.Compare a.0) →
+pub compare_step : (g : Guard) (o : ℕ → ℕ → Bool) (before later : List (Slot Pair)) (before-run run : List ℕ) (a : ℕ × ℕ × ℕ) (v : Verdict) (z : Standing) → v ≡ verdict_of a.0 → Ok z ≡ followed g.standing (event.Compare v) →
     Searched (kind_of Compare g.plans o) (search_refusal Compare g.plans o (length before-run) (usable before)) (Ok a) before later before-run run →
     ◌≡◌ {A = Guard × Answer} (record { plans = g.plans; standing = z }, as_found (Ok a) run) (step g (Search Compare o (length before) (length before-run)))
-compare_step g o before later before-run run a z e h =
-    let q : z ≡ by_verdict a.0 = cc in
+compare_step g o before later before-run run a v z f e h =
+    let q : z ≡ by_verdict a.0 = cc (same_standing a.0, ap standing_by f) in
     ap {B = Guard × Answer} (λ (z : Standing). (record { plans = g.plans; standing = z }, as_found (Ok a) run)) q ∙ search_found g Compare o before later before-run run a h
 
 -- the question whether the rule is open leaves the guard as it is
@@ -71,25 +77,3 @@ pub open_step : (g : Guard) (k : ℕ) (o : ℕ → ℕ → Bool) (before later :
     ◌≡◌ {A = Guard × Answer} (g, as_found r run) (step g (Search (Open k) o (length before) (length before-run)))
 open_step g k o before later before-run run (Ok a) h = search_found g (Open k) o before later before-run run a h
 open_step g k o before later before-run run (Err e) h = search_refused g (Open k) o before later before-run run e h
-
--- release is granted or refused by the standing
-pub release_granted : (g : Guard) (z : Standing) → Ok z ≡ release_from g.standing → ◌≡◌ {A = Guard × Answer} (g, granted) (step g Release)
-release_granted g z e = ap {B = Guard × Answer} (λ (a : Answer). (g, a)) (go g.standing e)
-  where
-    go : (s : Standing) → Ok z ≡ release_from s → granted ≡ released s
-    go Drawn e = absurd (let x : ◌≡◌ {A = ℕ} 0 1 = cc in omega arith)
-    go Passed e = refl
-    go Failed e = absurd (let x : ◌≡◌ {A = ℕ} 0 1 = cc in omega arith)
-    go Full e = absurd (let x : ◌≡◌ {A = ℕ} 0 1 = cc in omega arith)
-
-pub release_refused : (g : Guard) (r : Refusal) → Err r ≡ release_from g.standing → ◌≡◌ {A = Guard × Answer} (g, refused (report_of r)) (step g Release)
-release_refused g r e = ap {B = Guard × Answer} (λ (a : Answer). (g, a)) (go g.standing e)
-  where
-    same : (x : Refusal) → ◌≡◌ {A = Result Standing Refusal} (Err r) (Err x) → refused (report_of r) ≡ refused (report_of x)
-    same x e = let q : r ≡ x = cc in ap (λ (x : Refusal). refused (report_of x)) q
-
-    go : (s : Standing) → Err r ≡ release_from s → refused (report_of r) ≡ released s
-    go Drawn e = same NotCompared e
-    go Passed e = absurd (let x : ◌≡◌ {A = ℕ} 0 1 = cc in omega arith)
-    go Failed e = same ComparisonFailed e
-    go Full e = same ComparisonFull e

@@ -29,8 +29,8 @@ call_of (code.Start z s) = calls.Draw z (drawing.Start s)
 call_of (code.End z s) = calls.Draw z (drawing.End s)
 call_of (code.Arrow z s c t) = calls.Draw z (drawing.Arrow s c t)
 call_of (code.Lift z s c t) = calls.Draw z (drawing.Lift s c t)
-call_of (code.Compare rows n m) = calls.Search calls.Compare (rowed rows) n m
-call_of (code.Open k rows n m) = calls.Search (calls.Open k) (rowed rows) n m
+call_of (code.Compare t) = calls.Search calls.Compare (rowed t.order) t.slots t.bytes
+call_of (code.Open k t) = calls.Search (calls.Open k) (rowed t.order) t.slots t.bytes
 call_of code.Release = calls.Release
 
 -- an answer to it
@@ -40,6 +40,11 @@ answer_of Done = calls.done
 answer_of (Found v l k w) = calls.found (record { numbers = (v, l, k); run = take l w })
 answer_of Granted = calls.granted
 answer_of (Refused e) = calls.refused (report_of e)
+
+-- an answer, or the refusal in its place
+abbrev pub as_told : Result Answer Refusal → calls.Answer
+as_told (Ok a) = answer_of a
+as_told (Err e) = calls.refused (report_of e)
 
 -- behind the run of an answer there are zeros
 abbrev pub Clear : Answer → Type 0

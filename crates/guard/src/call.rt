@@ -1,10 +1,20 @@
 use plan::refusal::Refusal;
 
+// Stays: a type beside that of a script's terms: a list holds the order itself, in fixed memory, and a script its name.
+/// What a listed search is made with.
+#[derive(Clone, Copy, Debug, PartialEq, Eq)]
+pub struct SearchTerms {
+    /// The order as sixty-four rows, bit `r` of row `p` for the pair `p`, `r`, lawful or not.
+    pub order: [u64; 64],
+    /// The number of slots.
+    pub slots: usize,
+    /// The length of the run buffer.
+    pub bytes: usize,
+}
+
+// Stays: the eight calls by name (docs/DECISIONS.md, "The guard"); a case over `calls::Drawing` would nest names.
 /// A call on a guard, as a list of calls holds it.
-///
-/// A search brings its order as sixty-four rows, bit `r` of row `p` for the pair `p`, `r`, lawful or not; the number of
-/// its slots; and the length of its run buffer.
-#[derive(Clone, Copy)]
+#[derive(Clone, Copy, Debug, PartialEq, Eq)]
 pub enum Call {
     /// A new state of a side.
     State {
@@ -36,23 +46,21 @@ pub enum Call {
     },
     /// The programme is compared with the rule.
     Compare {
-        order: [u64; 64],
-        slots: usize,
-        bytes: usize,
+        terms: SearchTerms,
     },
     /// Does the rule permit every run of the first `commands` commands?
     Open {
         commands: u8,
-        order: [u64; 64],
-        slots: usize,
-        bytes: usize,
+        terms: SearchTerms,
     },
     /// The valves are to be released.
     Release,
 }
 
+// Stays: a refusal is a case, since each place of a list holds one answer; and what a search found is told by the
+// numbers that compare answers, with a run in fixed memory, so that a list needs none from the heap.
 /// What is answered to a call.
-#[derive(Clone, Copy)]
+#[derive(Clone, Copy, Debug, PartialEq, Eq)]
 pub enum Answer {
     /// The number of a new state.
     Number(u8),

@@ -16,6 +16,8 @@ use calls::standing::Standing;
 use plan::refusal::Refusal;
 use plan::table::Table;
 
+// Stays: one match on the step, since the definitions speak of a drawing as one value; and one number for all steps,
+// since an option would be unwrapped where a state is drawn and be empty for the others.
 /// Draws one step on a table. Answers a new state's number, and 0 for any other step.
 fn draw_on(table: &mut Table, drawing: Drawing) -> Result<u8, Refusal>
     ensures { MatchResult result (λ n. (against drawing (drawn table.old) ≡ none) × (drawn table.new ≡ made drawing (drawn table.old)) × (as_drawn drawing (Ok n) ≡ drawing_answer drawing (drawn table.old))) (λ e. (against drawing (drawn table.old) ≡ some (report_of e)) × (table.new ≡ table.old)) }
@@ -42,9 +44,11 @@ impl Guard {
         }
     }
 
+    // Stays: a side is any number that a caller names, and all but 0 and 1 are refused.
     /// Draws one step on a side, and sets the standing to drawn.
     fn draw(&mut self, side: u8, drawing: Drawing) -> Result<u8, Refusal>
-        ensures { (guard_of self.new, as_drawn drawing result) ≡ step (guard_of self.old) (Draw side drawing) }
+        ensures answer { (guard_of self.new, as_drawn drawing result) ≡ step (guard_of self.old) (Draw side drawing) }
+        ensures promised { Promised (guard_of self.old) (Draw side drawing) (as_drawn drawing result) (guard_of self.new) }
     {
         let number = match side {
             0 => draw_on(&mut self.programme, drawing)?,

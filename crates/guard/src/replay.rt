@@ -4,43 +4,21 @@ ghost use Rattle.calls.specs.Calls as calls;
 ghost use Rattle.walk.specs.Lists.{All};
 ghost use Rattle.calls.specs.Guards.{step, answers as answers_of};
 ghost use Rattle.calls.specs.Promise.{WholePromise};
-ghost use Rattle.guard.specs.Meanings.{guard_of, call_of, answer_of, Clear, as_number, as_done, as_found, as_granted};
+ghost use Rattle.guard.specs.Meanings.{guard_of, call_of, answer_of, as_told, Clear, as_found};
 
-use crate::call::{Answer, Call};
+use crate::call::{Answer, Call, SearchTerms};
 use crate::guard::Guard;
 use plan::refusal::Refusal;
 use search::pair::Pair;
-use walk::slot::{Mark, Slot};
+use walk::slot::Slot;
+use walk::verdict::Numbers;
 use walk::walk::usable;
 
-/// Slots for a comparison, as many as can be used.
-fn pair_slots() -> [Slot<Pair>; 4096]
+/// Slots that are not used yet, as many as can be used.
+fn blank_slots<I: Copy>(item: I) -> [Slot<I>; 4096]
     ensures { length result ≡ 4096 }
 {
-    let item = Pair {
-        state: 0,
-        states: 0,
-    };
-    [Slot {
-        item,
-        depth: 0,
-        parent: 0,
-        command: 0,
-        mark: Mark::Withdrawn,
-    }; 4096]
-}
-
-/// Slots for the question whether the rule is open, as many as can be used.
-fn set_slots() -> [Slot<u32>; 4096]
-    ensures { length result ≡ 4096 }
-{
-    [Slot {
-        item: 0,
-        depth: 0,
-        parent: 0,
-        command: 0,
-        mark: Mark::Withdrawn,
-    }; 4096]
+    [Slot::blank(item); 4096]
 }
 
 /// A run buffer of zeros, as long as can be used.
@@ -50,121 +28,90 @@ fn zeros() -> [u8; 4096]
     [0; 4096]
 }
 
-/// What a new state's number, or its refusal, is as an answer.
-fn numbered(outcome: Result<u8, Refusal>) -> Answer
-    ensures answer { answer_of result ≡ as_number outcome }
-    ensures clear { Clear result }
+/// The answer that tells what a search found, with its run in front of the buffer.
+fn found(answer: Numbers, run: [u8; 4096]) -> Answer
+    ensures answer { answer_of result ≡ as_found (Ok answer) run }
+    ensures clear { drop answer.1 run ≡ replicate (4096 - answer.1) 0 → Clear result }
 {
-    match outcome {
-        Ok(number) => Answer::Number(number),
-        Err(refusal) => Answer::Refused(refusal),
-    }
-}
-
-/// What a drawing that was done, or its refusal, is as an answer.
-fn done(outcome: Result<(), Refusal>) -> Answer
-    ensures answer { answer_of result ≡ as_done outcome }
-    ensures clear { Clear result }
-{
-    match outcome {
-        Ok(()) => Answer::Done,
-        Err(refusal) => Answer::Refused(refusal),
-    }
-}
-
-/// What release, or its refusal, is as an answer.
-fn granted(outcome: Result<(), Refusal>) -> Answer
-    ensures answer { answer_of result ≡ as_granted outcome }
-    ensures clear { Clear result }
-{
-    match outcome {
-        Ok(()) => Answer::Granted,
-        Err(refusal) => Answer::Refused(refusal),
-    }
-}
-
-/// What a search found, or its refusal, is as an answer.
-fn found(outcome: Result<(u8, usize, usize), Refusal>, run: [u8; 4096]) -> Answer
-    ensures answer { answer_of result ≡ as_found outcome run }
-    ensures clear { IfOk outcome (λ a. drop a.1 run ≡ replicate (4096 - a.1) 0) → Clear result }
-{
-    match outcome {
-        Ok((verdict, length, stored)) => Answer::Found {
-            verdict,
-            length,
-            stored,
-            run,
-        },
-        Err(refusal) => Answer::Refused(refusal),
+    let (verdict, length, stored) = answer;
+    Answer::Found {
+        verdict,
+        length,
+        stored,
+        run,
     }
 }
 
 impl Guard {
+    // Stays: no plainer: one function with a closure would take what either search promises as its premise.
     /// A listed comparison.
-    fn compare_listed(&mut self, order: &[u64; 64], slots: usize, bytes: usize) -> Answer
-        ensures answer { (guard_of self.new, answer_of result) ≡ step (guard_of self.old) (calls.Search calls.Compare (rowed order.now) slots bytes) }
-        ensures clear { Clear result }
+    fn compare_listed(&mut self, terms: &SearchTerms) -> Result<Answer, Refusal>
+        ensures answer { (guard_of self.new, as_told result) ≡ step (guard_of self.old) (calls.Search calls.Compare (rowed terms.now.order) terms.now.slots terms.now.bytes) }
+        ensures clear { IfOk result Clear }
     {
-        let mut store = pair_slots();
+        let mut store = blank_slots(Pair::default());
         let mut run = zeros();
-        let outcome = self.compare(
-            order,
-            &mut store[0..usable(slots)],
-            &mut run[0..usable(bytes)],
-        );
-        found(outcome, run)
+        let answer = self.compare(
+            &terms.order,
+            &mut store[..usable(terms.slots)],
+            &mut run[..usable(terms.bytes)],
+        )?;
+        Ok(found(answer, run))
     }
 
     /// A listed question whether the rule is open.
-    fn open_listed(&self, commands: u8, order: &[u64; 64], slots: usize, bytes: usize) -> Answer
-        ensures answer { (guard_of self.now, answer_of result) ≡ step (guard_of self.now) (calls.Search (calls.Open commands) (rowed order.now) slots bytes) }
-        ensures clear { Clear result }
+    fn open_listed(&self, commands: u8, terms: &SearchTerms) -> Result<Answer, Refusal>
+        ensures answer { (guard_of self.now, as_told result) ≡ step (guard_of self.now) (calls.Search (calls.Open commands) (rowed terms.now.order) terms.now.slots terms.now.bytes) }
+        ensures clear { IfOk result Clear }
     {
-        let mut store = set_slots();
+        let mut store = blank_slots(0u32);
         let mut run = zeros();
-        let outcome = self.open(
+        let answer = self.open(
             commands,
-            order,
-            &mut store[0..usable(slots)],
-            &mut run[0..usable(bytes)],
-        );
-        found(outcome, run)
+            &terms.order,
+            &mut store[..usable(terms.slots)],
+            &mut run[..usable(terms.bytes)],
+        )?;
+        Ok(found(answer, run))
     }
 
-    /// A listed call, by the guard's own calls.
-    fn apply(&mut self, call: &Call) -> Answer
-        ensures answer { (guard_of self.new, answer_of result) ≡ step (guard_of self.old) (call_of call.now) }
-        ensures clear { Clear result }
+    /// The answer to a listed call, by the guard's own calls, or its refusal.
+    fn attempt(&mut self, call: &Call) -> Result<Answer, Refusal>
+        ensures answer { (guard_of self.new, as_told result) ≡ step (guard_of self.old) (call_of call.now) }
+        ensures clear { IfOk result Clear }
     {
-        match *call {
-            Call::State { side } => numbered(self.state(side)),
-            Call::Start { side, state } => done(self.start(side, state)),
-            Call::End { side, state } => done(self.end(side, state)),
+        match call {
+            Call::State { side } => return Ok(Answer::Number(self.state(*side)?)),
+            Call::Start { side, state } => self.start(*side, *state)?,
+            Call::End { side, state } => self.end(*side, *state)?,
             Call::Arrow {
                 side,
                 from,
                 command,
                 to,
-            } => done(self.arrow(side, from, command, to)),
+            } => self.arrow(*side, *from, *command, *to)?,
             Call::Lift {
                 side,
                 from,
                 command,
                 to,
-            } => done(self.lift(side, from, command, to)),
-            Call::Compare {
-                order,
-                slots,
-                bytes,
-            } => self.compare_listed(&order, slots, bytes),
-            Call::Open {
-                commands,
-                order,
-                slots,
-                bytes,
-            } => self.open_listed(commands, &order, slots, bytes),
-            Call::Release => granted(self.release()),
+            } => self.lift(*side, *from, *command, *to)?,
+            Call::Compare { terms } => return self.compare_listed(terms),
+            Call::Open { commands, terms } => return self.open_listed(*commands, terms),
+            Call::Release => {
+                self.release()?;
+                return Ok(Answer::Granted);
+            }
         }
+        Ok(Answer::Done)
+    }
+
+    /// The answer to a listed call, by the guard's own calls.
+    fn apply(&mut self, call: &Call) -> Answer
+        ensures answer { (guard_of self.new, answer_of result) ≡ step (guard_of self.old) (call_of call.now) }
+        ensures clear { Clear result }
+    {
+        self.attempt(call).unwrap_or_else(Answer::Refused)
     }
 }
 
@@ -181,13 +128,10 @@ pub fn replay(calls: &[Call], answers: &mut [Answer]) -> usize
     ensures promise { WholePromise (take result (map call_of calls.now)) (map answer_of (take result answers.new)) }
 {
     let mut guard = Guard::new();
-    let mut answered = 0;
-    for call in calls {
-        if answered == answers.len() {
-            return answered;
-        }
-        answers[answered] = guard.apply(call);
-        answered += 1;
+    let count = calls.len().min(answers.len());
+    // Stays: no plainer: `iter_mut().enumerate()` leaves `calls[place]` instead, and after `zip` a proof knows nothing.
+    for (place, call) in calls[..count].iter().enumerate() {
+        answers[place] = guard.apply(call);
     }
-    answered
+    count
 }

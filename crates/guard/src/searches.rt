@@ -16,6 +16,7 @@ use order::interface::Order;
 use plan::refusal::Refusal;
 use search::pair::Pair;
 use walk::slot::Slot;
+use walk::verdict::Numbers;
 
 impl Guard {
     /// Compares the programme with the rule, and sets the standing to the verdict.
@@ -28,13 +29,13 @@ impl Guard {
         order: &O,
         slots: &mut [Slot<Pair>],
         run: &mut [u8],
-    ) -> Result<(u8, usize, usize), Refusal>
+    ) -> Result<Numbers, Refusal>
         ensures answer { (guard_of self.new, as_found result run.new) ≡ step (guard_of self.old) (calls.Search calls.Compare (O.Order.below order.now) (length slots.old) (length run.old)) }
         ensures search { ComparePromise (drawn self.old.programme) (drawn self.old.rule) (O.Order.below order.now) result slots.old slots.new run.old run.new }
         ensures promised { Promised (guard_of self.old) (calls.Search calls.Compare (O.Order.below order.now) (length slots.old) (length run.old)) (as_found result run.new) (guard_of self.new) }
     {
         let answer = search::compare::compare(&self.programme, &self.rule, order, slots, run)?;
-        self.standing = self.follow(Event::Compare(answer.0))?;
+        self.standing = self.follow(Event::Compare(answer.0.into()))?;
         Ok(answer)
     }
 
@@ -48,7 +49,7 @@ impl Guard {
         order: &O,
         slots: &mut [Slot<u32>],
         run: &mut [u8],
-    ) -> Result<(u8, usize, usize), Refusal>
+    ) -> Result<Numbers, Refusal>
         ensures answer { (guard_of self.now, as_found result run.new) ≡ step (guard_of self.now) (calls.Search (calls.Open commands) (O.Order.below order.now) (length slots.old) (length run.old)) }
         ensures search { OpenPromise (drawn self.now.rule) commands (O.Order.below order.now) result slots.old slots.new run.old run.new }
         ensures promised { Promised (guard_of self.now) (calls.Search (calls.Open commands) (O.Order.below order.now) (length slots.old) (length run.old)) (as_found result run.new) (guard_of self.now) }

@@ -4,14 +4,15 @@ ghost use Rattle.guard.specs.Transitions.{followed};
 use crate::guard::Guard;
 use calls::standing::Standing;
 use plan::refusal::Refusal;
+use walk::verdict::Verdict;
 
 /// What a call that nothing speaks against asks of the standing.
-#[derive(Clone, Copy)]
+#[derive(Clone, Copy, Debug, PartialEq, Eq)]
 pub(crate) enum Event {
     /// Something is drawn.
     Drawing,
     /// The plans were compared, with this verdict.
-    Compare(u8),
+    Compare(Verdict),
     /// The valves are to be released.
     Release,
 }
@@ -23,9 +24,9 @@ impl Guard {
     {
         match (self.standing, call) {
             (_, Event::Drawing) => Ok(Standing::Drawn),
-            (_, Event::Compare(0)) => Ok(Standing::Passed),
-            (_, Event::Compare(1)) => Ok(Standing::Failed),
-            (_, Event::Compare(_)) => Ok(Standing::Full),
+            (_, Event::Compare(Verdict::Passed)) => Ok(Standing::Passed),
+            (_, Event::Compare(Verdict::Failed)) => Ok(Standing::Failed),
+            (_, Event::Compare(Verdict::Full)) => Ok(Standing::Full),
             (Standing::Passed, Event::Release) => Ok(Standing::Passed),
             (Standing::Drawn, Event::Release) => Err(Refusal::NotCompared),
             (Standing::Failed, Event::Release) => Err(Refusal::ComparisonFailed),

@@ -1,3 +1,6 @@
 pub mod AsOrder
-pub mod Answered
+pub mod Filled
+pub mod Left
+pub mod Passed
 pub mod Rejection
+pub mod TakenDown

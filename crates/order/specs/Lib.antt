@@ -1,2 +1,4 @@
+pub mod Members
 pub mod Orders
+pub mod Sides
 pub mod Verdicts

@@ -1,4 +1,4 @@
-ghost use Rattle.std.specs.Prelude.{◌≡◌, ℕ, ◌<◌, Bool, length, slice_index};
+ghost use Rattle.std.specs.Prelude.{◌≡◌, ℕ, Bool};
 ghost use Rattle.automata.specs.Sets.{has};
 ghost use Rattle.automata.specs.Numbering.{Confined};
 ghost use Rattle.automata.specs.Relations.{bits, listed};
@@ -7,57 +7,31 @@ ghost use Rattle.automata.specs.Greatest.{Largest, Greatest, KeepsRuns};
 ghost use Rattle.automata.specs.Refining.{candidate};
 ghost use Rattle.order.specs.Orders.{rowed};
 
-use crate::numbers::{ends, states, targets};
 use crate::refining::settle;
+use crate::rows::rows_by;
 use crate::sets::{contains, highest, without};
+use crate::sides::Sides;
 use crate::sources::sources;
 use plan::interface::Plan;
 
-/// Rows without pairs.
-pub(crate) fn empty_rows() -> [u64; 64]
-    ensures size { length result ≡ 64 }
-    ensures zeros { (k : ℕ) → slice_index result k ≡ 0 }
+/// Whether both states exist and the law of ends lets `p` be below `r`.
+#[tactic(auto, unfolding(automata::specs::Refining::candidate))]
+fn is_candidate(states: u64, ends: u64, p: u8, r: u8) -> bool
+    ensures { result ≡ candidate (has states) ends p r }
 {
-    [0; 64]
-}
-
-/// The existing states that `p` may be below by the law of ends.
-fn candidates_of(states: u64, ends: u64, p: u8) -> u64
-    requires { p < 64 }
-    ensures { (r : ℕ) → has result r ≡ candidate (has states) ends p r }
-{
-    if !contains(states, p) {
-        0
-    } else if contains(ends, p) {
-        states & ends
-    } else {
-        states
-    }
-}
-
-/// The pairs of existing states that keep the law of ends.
-fn candidates(states: u64, ends: u64) -> [u64; 64]
-    ensures size { length result ≡ 64 }
-    ensures pairs { (p r : ℕ) → bits result p r ≡ candidate (has states) ends p r }
-{
-    let mut rows = empty_rows();
-    for p in 0..64u8 {
-        rows[p as usize] = candidates_of(states, ends, p);
-    }
-    rows
+    contains(states, p) && contains(states, r) && (!contains(ends, p) || contains(ends, r))
 }
 
 /// The pairs that are in some simulation: the candidates, narrowed until every arrow is matched. A number waits
 /// when its row has changed since the arrows to it were last matched.
-fn simulation(states: u64, ends: u64, targets: &[u64; 1664]) -> [u64; 64]
-    requires { Confined (has states) (listed ends targets.now) }
-    ensures { Largest (has states) (listed ends targets.now) (bits result) }
+fn simulation(sides: &Sides) -> [u64; 64]
+    requires { Confined (has sides.now.states) (listed sides.now.ends sides.now.targets) }
+    ensures { Largest (has sides.now.states) (listed sides.now.ends sides.now.targets) (bits result) }
 {
-    let sources = sources(targets);
-    let mut rows = candidates(states, ends);
-    let mut waiting = states;
-    while waiting != 0 {
-        let t = highest(waiting);
+    let sources = sources(&sides.targets);
+    let mut rows = rows_by(|p, r| is_candidate(sides.states, sides.ends, p, r));
+    let mut waiting = sides.states;
+    while let Some(t) = highest(waiting) {
         let changed = settle(&sources, t, rows[t as usize], &mut rows);
         waiting = without(waiting, t) | changed;
     }
@@ -74,8 +48,5 @@ pub fn rank<P: Plan, R: Plan>(programme: &P, rule: &R) -> [u64; 64]
     ensures lawful { Lawful (P.Plan.meaning programme.now) (R.Plan.meaning rule.now) (rowed result) }
     ensures runs { (o : ℕ → ℕ → Bool) → Simulates (P.Plan.meaning programme.now) (R.Plan.meaning rule.now) o → KeepsRuns (P.Plan.meaning programme.now) (R.Plan.meaning rule.now) o }
 {
-    let states = states(programme, rule);
-    let ends = ends(programme, rule);
-    let targets = targets(programme, rule);
-    simulation(states, ends, &targets)
+    simulation(&Sides::of(programme, rule))
 }

@@ -1,38 +1,20 @@
-ghost use Rattle.std.specs.Prelude.{◌≡◌, ℕ, ◌+◌, ◌*◌, ◌<◌, ◌≤◌, min, true, false, ◌↔◌, length, if◌then◌else◌, bit_and, bit_or, slice_index};
+ghost use Rattle.std.specs.Prelude.{◌≡◌, ℕ, ◌+◌, ◌<◌, ◌≤◌, min, true, false, ◌↔◌, if◌then◌else◌, bit_and, slice_index};
 ghost use Rattle.automata.specs.Sets.{has};
 ghost use Rattle.automata.specs.Relations.{bits, total};
 ghost use Rattle.automata.specs.Refining.{Into, Matches};
 
-use crate::sets::{lowest, without};
-
-/// An empty set for each command.
-fn no_numbers() -> [u64; 26]
-    ensures size { length result ≡ 26 }
-    ensures zeros { (k : ℕ) → slice_index result k ≡ 0 }
-{
-    [0; 26]
-}
-
-/// Joins the sources of `u` under each command to the set of that command.
-fn join(able: &mut [u64; 26], sources: &[u64; 1664], u: u8)
-    requires { u < 64 }
-    ensures { (c : ℕ) → c < 26 → slice_index able.new c ≡ bit_or (slice_index able.old c) (slice_index sources.now (u * 26 + c)) }
-{
-    for c in 0..26usize {
-        able[c] |= sources[u as usize * 26 + c];
-    }
-}
+use crate::sets::Members;
 
 /// For each command the numbers that have an arrow under it into the set.
 fn ahead(sources: &[u64; 1664], set: u64) -> [u64; 26]
     ensures { (c r : ℕ) → c < 26 → (has (slice_index result c) r ≡ true) ↔ Into sources.now c set r }
 {
-    let mut able = no_numbers();
-    let mut rest = set;
-    while rest != 0 {
-        let u = lowest(rest);
-        rest = without(rest, u);
-        join(&mut able, sources, u);
+    let mut able = [0; 26];
+    for u in Members(set) {
+        // Stays: nothing is known of a slice after an adapter of `iter_mut` but `enumerate`, so `zip` would lose `able`.
+        for (c, joined) in able.iter_mut().enumerate() {
+            *joined |= sources[u as usize * 26 + c];
+        }
     }
     able
 }
@@ -44,10 +26,7 @@ fn narrow(rows: &mut [u64; 64], users: u64, able: u64) -> u64
     ensures less { total rows.new + min 1 result ≤ total rows.old }
 {
     let mut changed = 0;
-    let mut rest = users;
-    while rest != 0 {
-        let p = lowest(rest);
-        rest = without(rest, p);
+    for p in Members(users) {
         let old = rows[p as usize];
         let new = old & able;
         if new != old {
@@ -68,8 +47,9 @@ pub(crate) fn settle(sources: &[u64; 1664], t: u8, above: u64, rows: &mut [u64; 
 {
     let able = ahead(sources, above);
     let mut changed = 0;
-    for c in 0..26usize {
-        changed |= narrow(rows, sources[t as usize * 26 + c], able[c]);
+    // Stays: no plainer: zipped, the loop knows `able` by what its iterator has left alone, and would have to tell it.
+    for (c, set) in able.iter().enumerate() {
+        changed |= narrow(rows, sources[t as usize * 26 + c], *set);
     }
     changed
 }

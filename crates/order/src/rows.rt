@@ -1,41 +1,53 @@
-ghost use Rattle.std.specs.Prelude.{◌≡◌, ℕ, ◌<◌};
+ghost use Rattle.std.specs.Prelude.{◌≡◌, ℕ, ◌<◌, length};
 ghost use Rattle.automata.specs.Sets.{has};
+ghost use Rattle.automata.specs.Relations.{bits};
 ghost use Rattle.order.specs.Orders.{Small, rowed};
 
-use crate::greatest::empty_rows;
 use crate::interface::Order;
+use crate::sets::contains;
 
+// Stays: sixty-four rows by value are a form of the project (docs/DECISIONS.md, "Forms").
 /// Sixty-four rows are an order: bit `r` of row `p` says whether `p` is below `r`.
 impl Order for [u64; 64] {
     ghost below = { λ rows p r. rowed rows p r };
 
     fn is_below(&self, p: u8, r: u8) -> bool {
-        p < 64 && r < 64 && (self[p as usize] >> r) % 2 == 1
+        p < 64 && r < 64 && contains(self[p as usize], r)
     }
 }
 
-/// The numbers that `p` is below, by the order's own answers.
-fn row_of<O: Order>(order: &O, p: u8) -> u64
-    requires { p < 64 }
-    ensures row { (r : ℕ) → has result r ≡ O.Order.below order.now p r }
-    ensures small { Small (O.Order.below order.now) }
+/// The set of the numbers below 64 that pass.
+fn set_by<F: Fn(u8) -> bool + Drop>(passes: F) -> u64
+    requires { F.IsAlwaysCallable passes }
+    ensures { (k : ℕ) → k < 64 → F.post passes k (has result k) }
 {
-    let mut row = 0;
-    for r in 0..64u8 {
-        if order.is_below(p, r) {
-            row |= 1 << r;
+    let mut set = 0;
+    for k in 0..64u8 {
+        if passes(k) {
+            set |= 1 << k;
         }
     }
-    row
+    set
+}
+
+/// The rows of the pairs of numbers below 64 that pass: each pair is asked for once.
+pub(crate) fn rows_by<F: Fn(u8, u8) -> bool + Drop>(passes: F) -> [u64; 64]
+    requires { F.IsAlwaysCallable passes }
+    ensures size { length result ≡ 64 }
+    ensures pairs { (p r : ℕ) → p < 64 → r < 64 → F.post passes p r (bits result p r) }
+    ensures small { Small (bits result) }
+{
+    // Stays: tried `array::from_fn`; `set_by-requires` stayed open: its closure does not know what `passes` asks.
+    let mut rows = [0; 64];
+    for (p, row) in rows.iter_mut().enumerate() {
+        *row = set_by(|r| passes(p as u8, r));
+    }
+    rows
 }
 
 /// Any order's answers, taken down as sixty-four rows: each pair is asked for once.
 pub fn rows_of<O: Order>(order: &O) -> [u64; 64]
     ensures { rowed result ≡ O.Order.below order.now }
 {
-    let mut rows = empty_rows();
-    for p in 0..64u8 {
-        rows[p as usize] = row_of(order, p);
-    }
-    rows
+    rows_by(|p, r| order.is_below(p, r))
 }

@@ -3,7 +3,7 @@ ghost use Rattle.order.specs.Orders.{same};
 use crate::interface::Order;
 
 /// The order in which each number below 64 is below itself and no other.
-#[derive(Clone, Copy)]
+#[derive(Clone, Copy, Debug, Default, PartialEq, Eq)]
 pub struct Same;
 
 impl Order for Same {

@@ -1,12 +1,15 @@
-ghost use Rattle.std.specs.Prelude.{◌≡◌, ℕ, ◌<◌, true, false, ◌↔◌, if◌then◌else◌, nat_eq};
+ghost use Rattle.std.specs.Prelude.{◌≡◌, ℕ, ◌<◌, true, false, ◌↔◌, MatchOption};
+ghost use Rattle.std.specs.Iterator.{at_most};
 ghost use Rattle.automata.specs.Sets.{has};
+ghost use Rattle.order.specs.Members.{IsHighest, IsLowest, IsWithout, TakesLowest};
 
-/// Whether `k` is in the set.
+// Stays: `automata::sets` has these for 32 bits; a trait over both widths would be longer than the two bodies, and a
+// function over `Into<u64>` would not do, since `without` hands the width back.
+/// Whether `k` is in the set. No number from 64 on is.
 pub(crate) fn contains(set: u64, k: u8) -> bool
-    requires { k < 64 }
     ensures { result ≡ has set k }
 {
-    (set >> k) % 2 == 1
+    k < 64 && (set >> k) % 2 == 1
 }
 
 /// Whether the sets have no element in common.
@@ -16,30 +19,46 @@ pub(crate) fn are_disjoint(a: u64, b: u64) -> bool
     a & b == 0
 }
 
-/// The least element of a set that has one.
-pub(crate) fn lowest(set: u64) -> u8
-    requires { 0 < set }
-    ensures within { result < 64 }
-    ensures there { has set result ≡ true }
-    ensures least { (k : ℕ) → k < result → has set k ≡ false }
+/// The least element, if there is one.
+pub(crate) fn lowest(set: u64) -> Option<u8>
+    ensures { MatchOption result (set ≡ 0) (IsLowest set) }
 {
-    set.trailing_zeros() as u8
+    if set == 0 {
+        None
+    } else {
+        Some(set.trailing_zeros() as u8)
+    }
 }
 
-/// The greatest element of a set that has one.
-pub(crate) fn highest(set: u64) -> u8
-    requires { 0 < set }
-    ensures within { result < 64 }
-    ensures there { has set result ≡ true }
+/// The greatest element, if there is one.
+pub(crate) fn highest(set: u64) -> Option<u8>
+    ensures { MatchOption result (set ≡ 0) (IsHighest set) }
 {
-    63 - set.leading_zeros() as u8
+    set.checked_ilog2().map(|k| k as u8)
 }
 
 /// The set without `k`.
 pub(crate) fn without(set: u64, k: u8) -> u64
-    requires { k < 64 }
-    ensures others { (j : ℕ) → has result j ≡ (if nat_eq j k then false else has set j) }
+    ensures others { IsWithout set k result }
     ensures less { has set k ≡ true → result < set }
 {
-    set & !(1 << k)
+    if k < 64 { set & !(1 << k) } else { set }
+}
+
+/// The members of a set, in ascending order.
+#[derive(Drop)]
+pub(crate) struct Members(pub(crate) u64);
+
+impl Iterator for Members {
+    type Item = u8;
+
+    ghost next_gives = { λ s r t. TakesLowest s.0 r t.0 };
+
+    ghost remaining = { λ s. at_most s.0 };
+
+    fn next(&mut self) -> Option<u8> {
+        let least = lowest(self.0)?;
+        self.0 = without(self.0, least);
+        Some(least)
+    }
 }

@@ -2,3 +2,4 @@ pub mod Tabled
 pub mod Reading
 pub mod Puts
 pub mod Writing
+pub mod Arrows

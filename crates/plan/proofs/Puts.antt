@@ -7,12 +7,13 @@ use Rattle.automata.specs.Records.{head_record, start_record, end_record}
 use Rattle.automata.specs.Files.{records, file, joined, each, when, arrows_from, arrows}
 use Rattle.automata.proofs.Fixed.{joined_append}
 use borrow.Rule.Slice.PartMut.{put_mid}
-use Rattle.plan.specs.Buffers.{Put}
+use Rattle.plan.specs.Buffers.{Put, Puts}
+use Rattle.plan.specs.declared.writer.Writer.{Writer}
 
-pub put_none : (b : List ℕ) (at : ℕ) → Put b b at [] at
+put_none : (b : List ℕ) (at : ℕ) → Put b b at [] at
 put_none b at = record { ends = omega arith; holds = λ _. sym (take-append-drop at b) }
 
-pub put_more : (b b' b'' : List ℕ) (at r r' : ℕ) (w w' : List ℕ) → length b' ≡ length b → Put b b' at w r → Put b' b'' r w' r' → Put b b'' at (w ++ w') r'
+put_more : (b b' b'' : List ℕ) (at r r' : ℕ) (w w' : List ℕ) → length b' ≡ length b → Put b b' at w r → Put b' b'' r w' r' → Put b b'' at (w ++ w') r'
 put_more b b' b'' at r r' w w' el p q = record {
   ends = omega (arith, p.ends, q.ends, length-append w w');
   holds = λ h.
@@ -31,37 +32,6 @@ put_more b b' b'' at r r' w w' el p q = record {
       ∙ ap (λ (x : List ℕ). take at b ++ x) (sym (append_assoc w w' (drop r' b)));
 }
 
-pub joined_one : (g : List ℕ) → joined (g ∷ []) ≡ g
-unfolding joined
-joined_one g = append-nil g
-
-pub joined_nil : joined [] ≡ []
-unfolding joined
-joined_nil = refl
-
-pub joined_none : (f : ℕ → List (List ℕ)) → joined (each 0 f) ≡ []
-unfolding joined each
-joined_none f = refl
-
-joined_each : (i : ℕ) (f : ℕ → List (List ℕ)) → joined (each (i + 1) f) ≡ joined (each i f) ++ joined (f i)
-unfolding each
-joined_each i f = ap (λ (k : ℕ). joined (each k f)) (add-one i) ∙ joined_append (each i f) (f i)
-
--- one more turn of a loop
-pub put_each : (b b' b'' : List ℕ) (at r r' i : ℕ) (f : ℕ → List (List ℕ)) → length b' ≡ length b →
-    Put b b' at (joined (each i f)) r → Put b' b'' r (joined (f i)) r' → Put b b'' at (joined (each (i + 1) f)) r'
-put_each b b' b'' at r r' i f el p q =
-    subst (λ w. Put b b'' at w r') (sym (joined_each i f)) (put_more b b' b'' at r r' (joined (each i f)) (joined (f i)) el p q)
-
-pub put_start : (b : List ℕ) (at : ℕ) (f : ℕ → List (List ℕ)) → Put b b at (joined (each 0 f)) at
-put_start b at f = subst (λ w. Put b b at w at) (sym (joined_none f)) (put_none b at)
-
-pub put_when : (x : Bool) (g : List ℕ) (b b' : List ℕ) (at r : ℕ) → x ≡ true → Put b b' at g r → Put b b' at (joined (when x g)) r
-put_when x g b b' at r e p = subst (λ w. Put b b' at w r) (sym (ap (λ (v : Bool). joined (when v g)) e ∙ joined_one g)) p
-
-pub put_unless : (x : Bool) (g : List ℕ) (b : List ℕ) (at : ℕ) → x ≡ false → Put b b at (joined (when x g)) at
-put_unless x g b at e = subst (λ w. Put b b at w at) (sym (ap (λ (v : Bool). joined (when v g)) e ∙ joined_nil)) (put_none b at)
-
 -- what a copy leaves
 pub put_middle : (b part last : List ℕ) (at : ℕ) → last ≡ part → Put b (put_mid at (at + length part - at) b last) at part (at + length part)
 put_middle b part last at e = record {
@@ -70,6 +40,47 @@ put_middle b part last at e = record {
       let k : at + (at + length part - at) ≡ at + length part = omega arith in
       ap₂ (λ (x y : List ℕ). take at b ++ (x ++ y)) e (drop-drop (at + length part - at) at b ∙ ap (λ (n : ℕ). drop n b) k);
 }
+
+-- the same of a writer
+puts_none : (v : Writer) → Puts v [] v
+puts_none v = record { same_reference = refl; long = refl; put = put_none v.buffer.now v.end }
+
+pub puts_more : (v u w : Writer) (g h : List ℕ) → Puts v g u → Puts u h w → Puts v (g ++ h) w
+puts_more v u w g h p q = record {
+  same_reference = q.same_reference ∙ p.same_reference;
+  long = q.long ∙ p.long;
+  put = put_more v.buffer.now u.buffer.now w.buffer.now v.end u.end w.end g h p.long p.put q.put;
+}
+
+joined_one : (g : List ℕ) → joined (g ∷ []) ≡ g
+unfolding joined
+joined_one g = append-nil g
+
+joined_nil : joined [] ≡ []
+unfolding joined
+joined_nil = refl
+
+joined_none : (f : ℕ → List (List ℕ)) → joined (each 0 f) ≡ []
+unfolding joined each
+joined_none f = refl
+
+joined_each : (i : ℕ) (f : ℕ → List (List ℕ)) → joined (each (i + 1) f) ≡ joined (each i f) ++ joined (f i)
+unfolding each
+joined_each i f = ap (λ (k : ℕ). joined (each k f)) (add-one i) ∙ joined_append (each i f) (f i)
+
+-- a loop over numbers
+pub puts_start : (v : Writer) (f : ℕ → List (List ℕ)) → Puts v (joined (each 0 f)) v
+puts_start v f = subst (λ (g : List ℕ). Puts v g v) (sym (joined_none f)) (puts_none v)
+
+pub puts_each : (v u w : Writer) (i : ℕ) (f : ℕ → List (List ℕ)) → Puts v (joined (each i f)) u → Puts u (joined (f i)) w → Puts v (joined (each (i + 1) f)) w
+puts_each v u w i f p q = subst (λ (g : List ℕ). Puts v g w) (sym (joined_each i f)) (puts_more v u w (joined (each i f)) (joined (f i)) p q)
+
+-- a record that is put where x holds
+pub puts_when : (x : Bool) (g : List ℕ) (v w : Writer) → x ≡ true → Puts v g w → Puts v (joined (when x g)) w
+puts_when x g v w e p = subst (λ (h : List ℕ). Puts v h w) (sym (ap (λ (b : Bool). joined (when b g)) e ∙ joined_one g)) p
+
+pub puts_unless : (x : Bool) (g : List ℕ) (v : Writer) → x ≡ false → Puts v (joined (when x g)) v
+puts_unless x g v e = subst (λ (h : List ℕ). Puts v h v) (sym (ap (λ (b : Bool). joined (when b g)) e ∙ joined_nil)) (puts_none v)
 
 -- the file, part by part
 file_parts : (A : Nfa) → file A ≡ head_record A.count ++ (joined (each A.count (λ s. when (has A.starts s) (start_record s)))
@@ -81,23 +92,16 @@ file_parts A =
     ∙ ap (λ r. joined (each A.count (λ s. when (has A.starts s) (start_record s))) ++ r)
     (joined_append (each A.count (λ s. when (has A.ends s) (end_record s))) (arrows A)))
 
-pub put_parts : (A : Nfa) (b₀ b₁ b₂ b₃ b₄ : List ℕ) (r₁ r₂ r₃ r₄ : ℕ) →
-    length b₁ ≡ length b₀ → length b₂ ≡ length b₁ → length b₃ ≡ length b₂ →
-    Put b₀ b₁ 0 (head_record A.count) r₁ →
-    Put b₁ b₂ r₁ (joined (each A.count (λ s. when (has A.starts s) (start_record s)))) r₂ →
-    Put b₂ b₃ r₂ (joined (each A.count (λ s. when (has A.ends s) (end_record s)))) r₃ →
-    Put b₃ b₄ r₃ (joined (arrows A)) r₄ →
-    Put b₀ b₄ 0 (file A) r₄
-put_parts A b₀ b₁ b₂ b₃ b₄ r₁ r₂ r₃ r₄ l₁ l₂ l₃ p₁ p₂ p₃ p₄ =
-    let q₃ = put_more b₂ b₃ b₄ r₂ r₃ r₄ _ _ l₃ p₃ p₄ in
-    let q₂ = put_more b₁ b₂ b₄ r₁ r₂ r₄ _ _ l₂ p₂ q₃ in
-    let q₁ = put_more b₀ b₁ b₄ 0 r₁ r₄ _ _ l₁ p₁ q₂ in
-    subst (λ w. Put b₀ b₄ 0 w r₄) (sym (file_parts A)) q₁
+pub puts_parts : (A : Nfa) (w₀ w₁ w₂ w₃ w₄ : Writer) →
+    Puts w₀ (head_record A.count) w₁ →
+    Puts w₁ (joined (each A.count (λ s. when (has A.starts s) (start_record s)))) w₂ →
+    Puts w₂ (joined (each A.count (λ s. when (has A.ends s) (end_record s)))) w₃ →
+    Puts w₃ (joined (arrows A)) w₄ →
+    Puts w₀ (file A) w₄
+puts_parts A w₀ w₁ w₂ w₃ w₄ p₁ p₂ p₃ p₄ =
+    subst (λ (g : List ℕ). Puts w₀ g w₄) (sym (file_parts A)) (puts_more w₀ w₁ w₄ _ _ p₁ (puts_more w₁ w₂ w₄ _ _ p₂ (puts_more w₂ w₃ w₄ _ _ p₃ p₄)))
 
 -- the arrows, state by state
-pub put_arrows_start : (A : Nfa) (b : List ℕ) (at : ℕ) → Put b b at (joined (each 0 (λ s. arrows_from A s))) at
-put_arrows_start A b at = put_start b at (λ s. arrows_from A s)
-
-pub put_arrows_end : (A : Nfa) (b b' : List ℕ) (at r i : ℕ) → i ≡ A.count → Put b b' at (joined (each i (λ s. arrows_from A s))) r → Put b b' at (joined (arrows A)) r
+pub puts_arrows : (A : Nfa) (v w : Writer) (i : ℕ) → i ≡ A.count → Puts v (joined (each i (λ s. arrows_from A s))) w → Puts v (joined (arrows A)) w
 unfolding arrows
-put_arrows_end A b b' at r i e p = subst (λ (n : ℕ). Put b b' at (joined (each n (λ s. arrows_from A s))) r) e p
+puts_arrows A v w i e p = subst (λ (n : ℕ). Puts v (joined (each n (λ s. arrows_from A s))) w) e p

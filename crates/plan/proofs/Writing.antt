@@ -1,13 +1,12 @@
 -- What the writer's parts come to.
-use Rattle.std.proofs.Common.{◌≡◌, ℕ, ◌+◌, ◌*◌, ◌^◌, ◌<◌, ◌≤◌, ltb, List, [], ◌∷◌, ◌++◌, length, get_or, take, drop, sym, refl, ap, ◌∙◌, arith, take_at, pow_pos}
+use Rattle.std.proofs.Common.{◌≡◌, ℕ, ◌+◌, ◌*◌, ◌^◌, ◌<◌, ◌≤◌, ltb, List, ◌++◌, length, get_or, take, drop, sym, refl, ap, ◌∙◌, arith, take_at, pow_pos}
 use Rattle.std.proofs.lemmas.Bool.{ltb-true, le-ltb, cond-false, cond_both}
 use Rattle.automata.specs.Nfa.{Nfa, Proper}
 use Rattle.automata.specs.Files.{file}
-use Rattle.plan.specs.Answers.{Written, TooShort}
+use Rattle.plan.specs.Answers.{Written}
 use Rattle.plan.specs.Buffers.{Put}
 use Rattle.plan.specs.Tables.{drawn}
 use Rattle.plan.specs.declared.table.Table.{Table}
-use Rattle.plan.specs.declared.refusal.Refusal.TheVariants.{BufferShort}
 use Rattle.plan.proofs.Reading.{plan_read_as}
 
 -- what a table holds is a proper plan
@@ -30,6 +29,3 @@ written A b b' n W p h =
       bytes = e;
       reads_back = plan_read_as (take n b') A (record { proper = W; bytes = sym (ap (take n) e ∙ take_at (file A) (drop n b) n l) });
     }
-
-pub too_short : (A : Nfa) (b : List ℕ) (n : ℕ) → n ≡ length (file A) → length b < n → TooShort A b b (BufferShort n)
-too_short A b n e h = record { short = omega (arith, e); number = refl; needed = ap {B = List ℕ} (λ (k : ℕ). k ∷ []) e; kept = refl }

@@ -1,16 +1,21 @@
-ghost use Rattle.std.specs.Prelude.{◌≡◌, MatchResult};
-ghost use Rattle.automata.specs.Lookup.{viewed};
+ghost use Rattle.std.specs.Prelude.{◌≡◌, [], ◌∷◌, ◌++◌, take, MatchResult};
+ghost use Rattle.automata.specs.Sets.{pack};
+ghost use Rattle.automata.specs.Files.{file};
+ghost use Rattle.automata.specs.Reading.{cut, stated_count};
+ghost use Rattle.automata.specs.Lookup.{memb, front, viewed};
 ghost use Rattle.plan.specs.Answers.{ReadAs, RefusedAs};
 
 use crate::interface::Plan;
 use crate::lookup;
 use crate::reader::check_record;
+use crate::records::Records;
 use crate::refusal::Refusal;
 
 /// The plan of an accepted plan file, read off its bytes. It can only be made by reading them.
 #[derive(Drop)]
 pub struct FilePlan<'a> {
     bytes: &'a [u8],
+    ghost accepted: { file (viewed bytes.now) ≡ bytes.now },
 }
 
 impl<'a> FilePlan<'a> {
@@ -26,18 +31,23 @@ impl<'a> FilePlan<'a> {
             return Err(Refusal::EmptyFile);
         }
         let count = lookup::count_of(bytes);
-        let mut before = &bytes[0..0];
-        let mut at = 0;
-        while at < bytes.len() {
-            match check_record(count, before, &bytes[at..], at) {
-                Ok(size) => {
-                    before = &bytes[at + 2..at + size];
-                    at += size;
-                }
-                Err(fault) => return Err(fault),
-            }
+        let mut before: &[u8] = &[];
+        // Stays: no plainer: an iterator of records with their places would be a type for this one loop.
+        let mut place = 0;
+        for record in Records::new(bytes) {
+            check_record(count, before, record, place)?;
+            before = &record[2..];
+            place += record.len();
         }
         Ok(FilePlan { bytes })
+    }
+
+    /// The states of which a record of `prefix` and the state stands in front of the arrows.
+    fn marked(&self, prefix: &[u8]) -> u32
+        ensures { result ≡ pack (stated_count self.now.bytes.now) (λ s. memb (prefix.now ++ (s ∷ [])) (cut (take (front self.now.bytes.now) self.now.bytes.now))) }
+    {
+        let (front, _) = lookup::split_front(self.bytes);
+        lookup::collect(front, prefix, lookup::count_of(self.bytes))
     }
 }
 
@@ -49,29 +59,19 @@ impl<'a> Plan for FilePlan<'a> {
     }
 
     fn starts(&self) -> u32 {
-        let count = lookup::count_of(self.bytes);
-        let front = &self.bytes[0..lookup::front(self.bytes)];
-        lookup::collect(front, &[3, 0, 2, 0], count)
+        self.marked(&[3, 0, 2, 0])
     }
 
     fn ends(&self) -> u32 {
-        let count = lookup::count_of(self.bytes);
-        let front = &self.bytes[0..lookup::front(self.bytes)];
-        lookup::collect(front, &[3, 0, 3, 0], count)
+        self.marked(&[3, 0, 3, 0])
     }
 
     fn targets(&self, state: u8, command: u8) -> u32 {
-        let count = lookup::count_of(self.bytes);
-        if state >= count {
-            return 0;
+        if state < self.count() && command < 26 {
+            let arrows = lookup::arrows_of(self.bytes, state, command);
+            lookup::collect(arrows, &[5, 0, 4, 0, state, command], self.count())
+        } else {
+            0
         }
-        if command >= 26 {
-            return 0;
-        }
-        lookup::collect(
-            lookup::arrows_of(self.bytes, state, command),
-            &[5, 0, 4, 0, state, command],
-            count,
-        )
     }
 }

@@ -6,6 +6,7 @@ pub mod file;
 pub mod interface;
 pub mod lookup;
 pub mod reader;
+mod records;
 pub mod refusal;
 pub mod runs;
 pub mod table;

@@ -1,11 +1,15 @@
-ghost use Rattle.std.specs.Prelude.{◌≡◌, take};
-ghost use Rattle.plan.specs.Refusals.{number_of, values_of};
+ghost use Rattle.std.specs.Prelude.{◌≡◌, ◌≤◌, length, Some};
+ghost use Rattle.plan.specs.Refusals.{number_of, values_of, reason_of};
+
+use arrayvec::ArrayVec;
+use std::error::Error;
+use std::fmt;
 
 /// Why a call is refused. A refused call makes nothing and changes nothing.
 ///
 /// Each case has a fixed number, 1 to 22, and the values that it brings; states `p`, `q`, `r` and `target` are in the
 /// numbering of a comparison, and a `place` is the offset of a record's first byte.
-#[derive(Clone, Copy)]
+#[derive(Clone, Copy, Debug, PartialEq, Eq)]
 pub enum Refusal {
     /// 1: a side is 0 or 1.
     NoSuchSide,
@@ -81,8 +85,16 @@ pub enum Refusal {
     },
 }
 
-/// Up to four values, and how many there are.
-pub type Values = ([usize; 4], usize);
+/// The values that a refusal brings, at most four.
+pub type Values = ArrayVec<usize, 4>;
+
+/// The values, of which there are at most four.
+fn listed(values: &[usize]) -> Values
+    requires { length values.now ≤ 4 }
+    ensures { result.items ≡ values.now }
+{
+    ArrayVec::try_from(values).unwrap()
+}
 
 impl Refusal {
     /// The number that stands for the case, 1 to 22.
@@ -115,32 +127,73 @@ impl Refusal {
         }
     }
 
-    /// The values that the case brings, in the order in which they are reported, and how many there are.
+    /// The values that the case brings, in the order in which they are reported.
     pub fn values(&self) -> Values
-        ensures { take result.1 result.0 ≡ values_of self.now }
+        ensures { result.items ≡ values_of self.now }
     {
         match *self {
-            Refusal::NotReflexive { p } => ([p as usize, 0, 0, 0], 1),
-            Refusal::NotTransitive { p, q, r } => ([p as usize, q as usize, r as usize, 0], 3),
-            Refusal::EndNotKept { p, r } => ([p as usize, r as usize, 0, 0], 2),
+            Refusal::NotReflexive { p } => listed(&[p as usize]),
+            Refusal::NotTransitive { p, q, r } => listed(&[p as usize, q as usize, r as usize]),
+            Refusal::EndNotKept { p, r } => listed(&[p as usize, r as usize]),
             Refusal::ArrowNotMatched {
                 p,
                 r,
                 command,
                 target,
-            } => (
-                [p as usize, r as usize, command as usize, target as usize],
-                4,
-            ),
-            Refusal::EmptyFile => ([0, 0, 0, 0], 1),
-            Refusal::Truncated { place } => ([place, 0, 0, 0], 1),
-            Refusal::UnknownKind { place } => ([place, 0, 0, 0], 1),
-            Refusal::WrongLength { place } => ([place, 0, 0, 0], 1),
-            Refusal::MisplacedHead { place } => ([place, 0, 0, 0], 1),
-            Refusal::OutOfRange { place } => ([place, 0, 0, 0], 1),
-            Refusal::NotAscending { place } => ([place, 0, 0, 0], 1),
-            Refusal::BufferShort { needed } => ([needed, 0, 0, 0], 1),
-            _ => ([0, 0, 0, 0], 0),
+            } => listed(&[p as usize, r as usize, command as usize, target as usize]),
+            Refusal::EmptyFile => listed(&[0]),
+            Refusal::Truncated { place }
+            | Refusal::UnknownKind { place }
+            | Refusal::WrongLength { place }
+            | Refusal::MisplacedHead { place }
+            | Refusal::OutOfRange { place }
+            | Refusal::NotAscending { place } => listed(&[place]),
+            Refusal::BufferShort { needed } => listed(&[needed]),
+            _ => listed(&[]),
+        }
+    }
+
+    /// What it means, in a few words.
+    pub fn reason(&self) -> &'static str
+        ensures { result.now ≡ reason_of self.now }
+    {
+        match self {
+            Refusal::NoSuchSide => "a side is 0 or 1",
+            Refusal::SideFull => "the side has 32 states already",
+            Refusal::NoSuchState => "no such state",
+            Refusal::NoSuchCommand => "a command is at most 25",
+            Refusal::RunBufferShort => "the run buffer is shorter than the usable slots",
+            Refusal::NotReflexive { .. } => "this state is not below itself",
+            Refusal::NotTransitive { .. } =>
+                "the first is below the second and that below the third, but not the first below the third",
+            Refusal::EndNotKept { .. } =>
+                "the first is below the second and an end, but the second is no end",
+            Refusal::ArrowNotMatched { .. } =>
+                "the first is below the second, but its arrow has no answer there",
+            Refusal::CommandCount => "the number of commands is not 1 to 26",
+            Refusal::NotCompared => "nothing was compared since the last drawing",
+            Refusal::ComparisonFailed => "the last comparison failed",
+            Refusal::ComparisonFull => "the last comparison ran out of slots",
+            Refusal::OrderLength => "an order has 512 bytes",
+            Refusal::EmptyFile => "the file is empty",
+            Refusal::Truncated { .. } => "the file ends inside the record",
+            Refusal::UnknownKind { .. } => "the kind is not 1 to 4",
+            Refusal::WrongLength { .. } => "the length is not that of the kind",
+            Refusal::MisplacedHead { .. } => "the first record is no head, or a later one is",
+            Refusal::OutOfRange { .. } => "more than 32 states, or no such state or command",
+            Refusal::NotAscending { .. } => "the record is not above the one before it",
+            Refusal::BufferShort { .. } => "the file needs a buffer of this many bytes",
         }
     }
 }
+
+/// What the refusal means, in a few words; its number and values are not among them.
+impl fmt::Display for Refusal {
+    ghost output = { λ r. Some (reason_of r) };
+
+    fn fmt<W: fmt::Write>(&self, f: &mut fmt::Formatter<W>) -> fmt::Result {
+        f.write_str(self.reason())
+    }
+}
+
+impl Error for Refusal {}

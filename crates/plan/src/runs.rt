@@ -27,9 +27,8 @@ pub fn permits<P: Plan>(plan: &P, run: &[u8]) -> bool
     if plan.count() == 0 {
         return false;
     }
-    let mut reached = plan.starts();
-    for command in run {
-        reached = onward(plan, reached, *command);
-    }
+    let reached = run
+        .iter()
+        .fold(plan.starts(), |set, command| onward(plan, set, *command));
     reached & plan.ends() != 0
 }

@@ -6,6 +6,7 @@ pub struct Table {
     pub(crate) count: u8,
     pub(crate) starts: u32,
     pub(crate) ends: u32,
+    // Stays: no plainer: what a table means is told by the place `s * 26 + c`, and rows of 26 would be flattened for it.
     pub(crate) arrows: [u32; 832],
     ghost few: { count ≤ 32 },
     ghost starting: { starts < 2 ^ count },

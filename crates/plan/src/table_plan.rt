@@ -1,7 +1,6 @@
 ghost use Rattle.std.specs.Prelude.{◌≡◌, ℕ, ◌+◌, ◌*◌, ◌/◌, ◌%◌, ◌<◌, ◌≤◌, length, slice_index};
 ghost use Rattle.plan.specs.Tables.{drawn};
 
-use crate::drawing::no_arrows;
 use crate::interface::Plan;
 use crate::table::Table;
 
@@ -21,27 +20,19 @@ impl Plan for Table {
     }
 
     fn targets(&self, state: u8, command: u8) -> u32 {
-        if state >= self.count {
-            return 0;
+        if state < self.count && command < 26 {
+            self.arrows[state as usize * 26 + command as usize]
+        } else {
+            0
         }
-        if command >= 26 {
-            return 0;
-        }
-        self.arrows[state as usize * 26 + command as usize]
     }
 }
 
 /// All sets of targets of a plan, each asked for once: those of state s under command c at place s * 26 + c.
-fn all_targets<P: Plan>(plan: &P, count: u8) -> [u32; 832]
-    requires { count ≤ 32 }
-    ensures asked { (k : ℕ) → k < 26 * count → slice_index result k ≡ (P.Plan.meaning plan.now).targets (k / 26) (k % 26) }
-    ensures beyond { (k : ℕ) → 26 * count ≤ k → slice_index result k ≡ 0 }
+fn all_targets<P: Plan>(plan: &P) -> [u32; 832]
+    ensures { (k : ℕ) → k < 832 → slice_index result k ≡ (P.Plan.meaning plan.now).targets (k / 26) (k % 26) }
 {
-    let mut arrows = no_arrows();
-    for k in 0..26 * count as usize {
-        arrows[k] = plan.targets((k / 26) as u8, (k % 26) as u8);
-    }
-    arrows
+    std::array::from_fn(|k| plan.targets((k / 26) as u8, (k % 26) as u8))
 }
 
 impl Table {
@@ -54,7 +45,7 @@ impl Table {
             count,
             starts: plan.starts(),
             ends: plan.ends(),
-            arrows: all_targets(plan, count),
+            arrows: all_targets(plan),
         }
     }
 }

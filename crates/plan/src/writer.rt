@@ -2,7 +2,7 @@ ghost use Rattle.std.specs.Prelude.{◌≡◌, ℕ, ◌+◌, ◌^◌, ◌<◌, �
 ghost use Rattle.automata.specs.Sets.{has};
 ghost use Rattle.automata.specs.Files.{file, joined, each, when, arrows_from, arrows};
 ghost use Rattle.plan.specs.Answers.{Written, TooShort};
-ghost use Rattle.plan.specs.Buffers.{Put};
+ghost use Rattle.plan.specs.Buffers.{Put, Puts};
 ghost use Rattle.plan.specs.Tables.{drawn};
 
 use crate::interface::Plan;
@@ -10,82 +10,84 @@ use crate::refusal::Refusal;
 use crate::table::Table;
 use automata::sets;
 
-/// Puts bytes into the buffer at an offset, if they fit, and answers where they end.
-fn put(buffer: &mut [u8], at: usize, part: &[u8]) -> usize
-    requires { at + length part.now < 2 ^ 64 }
-    ensures { Put buffer.old buffer.new at part.now result }
-{
-    let end = at + part.len();
-    if end <= buffer.len() {
-        buffer[at..end].copy_from_slice(part);
-    }
-    end
+// Stays: an end beside the buffer, since the end goes on past the buffer: `write` answers the length needed.
+/// A buffer that parts are put into one behind the other, each if it fits, and where the last of them ends.
+#[derive(Drop)]
+struct Writer<'a> {
+    buffer: &'a mut [u8],
+    end: usize,
 }
 
-/// Puts the record of `prefix` and `k`, where `k` is in the set.
-fn put_member(set: u32, k: u8, prefix: &[u8], buffer: &mut [u8], at: usize) -> usize
-    requires { (k < 32) × ((length prefix.now ≤ 6) × (at ≤ 2 ^ 32)) }
-    ensures { (Put buffer.old buffer.new at (joined (when (has set k) (prefix.now ++ (k ∷ [])))) result) × (result ≤ at + 7) }
-{
-    if sets::contains(set, k) {
-        let middle = put(buffer, at, prefix);
-        put(buffer, middle, &[k])
-    } else {
-        at
+impl<'a> Writer<'a> {
+    /// Puts bytes.
+    fn put(&mut self, part: &[u8])
+        requires { self.old.end + length part.now < 2 ^ 64 }
+        ensures { Puts self.old part.now self.new }
+    {
+        let start = self.end;
+        let end = start + part.len();
+        let buffer = &mut *self.buffer;
+        if end <= buffer.len() {
+            buffer[start..end].copy_from_slice(part);
+        }
+        self.end = end;
     }
-}
 
-/// Puts the record of `prefix` and each member of the set, ascending.
-fn put_members(count: u8, set: u32, prefix: &[u8], buffer: &mut [u8], at: usize) -> usize
-    requires { (count ≤ 32) × ((length prefix.now ≤ 6) × (at ≤ 2 ^ 31)) }
-    ensures { (Put buffer.old buffer.new at (joined (each count (λ k. when (has set k) (prefix.now ++ (k ∷ []))))) result) × (result ≤ at + 224) }
-{
-    let mut end = at;
-    for k in 0..count {
-        end = put_member(set, k, prefix, buffer, end);
+    /// Puts the record of `prefix` and `k`, where `k` is in the set.
+    fn member(&mut self, set: u32, k: u8, prefix: &[u8])
+        requires { (k < 32) × ((length prefix.now ≤ 6) × (self.old.end ≤ 2 ^ 32)) }
+        ensures put { Puts self.old (joined (when (has set k) (prefix.now ++ (k ∷ [])))) self.new }
+        ensures size { self.new.end ≤ self.old.end + 7 }
+    {
+        if sets::contains(set, k) {
+            self.put(prefix);
+            self.put(&[k]);
+        }
     }
-    end
-}
 
-/// Puts the arrows from one state, ascending by command and target.
-fn put_arrows_from(table: &Table, s: u8, buffer: &mut [u8], at: usize) -> usize
-    requires { at ≤ 2 ^ 30 }
-    ensures { (Put buffer.old buffer.new at (joined (arrows_from (drawn table.now) s)) result) × (result ≤ at + 5824) }
-{
-    let mut end = at;
-    for c in 0..26u8 {
-        end = put_members(
-            table.count,
-            table.targets(s, c),
-            &[5, 0, 4, 0, s, c],
-            buffer,
-            end,
-        );
+    /// Puts the record of `prefix` and each member of the set, ascending.
+    fn members(&mut self, count: u8, set: u32, prefix: &[u8])
+        requires { (count ≤ 32) × ((length prefix.now ≤ 6) × (self.old.end ≤ 2 ^ 31)) }
+        ensures put { Puts self.old (joined (each count (λ k. when (has set k) (prefix.now ++ (k ∷ []))))) self.new }
+        ensures size { self.new.end ≤ self.old.end + 224 }
+    {
+        for k in 0..count {
+            self.member(set, k, prefix);
+        }
     }
-    end
-}
 
-/// Puts all arrows, ascending by state, command and target.
-fn put_arrows(table: &Table, buffer: &mut [u8], at: usize) -> usize
-    requires { at ≤ 2 ^ 20 }
-    ensures { (Put buffer.old buffer.new at (joined (arrows (drawn table.now))) result) × (result ≤ at + 186368) }
-{
-    let mut end = at;
-    for s in 0..table.count {
-        end = put_arrows_from(table, s, buffer, end);
+    /// Puts the arrows from one state, ascending by command and target.
+    fn arrows_from(&mut self, table: &Table, s: u8)
+        requires { self.old.end ≤ 2 ^ 30 }
+        ensures put { Puts self.old (joined (arrows_from (drawn table.now) s)) self.new }
+        ensures size { self.new.end ≤ self.old.end + 5824 }
+    {
+        for c in 0..26u8 {
+            self.members(table.count, table.targets(s, c), &[5, 0, 4, 0, s, c]);
+        }
     }
-    end
+
+    /// Puts all arrows, ascending by state, command and target.
+    fn arrows(&mut self, table: &Table)
+        requires { self.old.end ≤ 2 ^ 20 }
+        ensures { Puts self.old (joined (arrows (drawn table.now))) self.new }
+    {
+        for s in 0..table.count {
+            self.arrows_from(table, s);
+        }
+    }
 }
 
 /// Puts the table's file into the buffer as far as it fits, record by record, and answers its length.
 fn put_file(table: &Table, buffer: &mut [u8]) -> usize
     ensures { Put buffer.old buffer.new 0 (file (drawn table.now)) result }
 {
-    let count = table.count;
-    let head = put(buffer, 0, &[3, 0, 1, 0, count]);
-    let starts = put_members(count, table.starts, &[3, 0, 2, 0], buffer, head);
-    let ends = put_members(count, table.ends, &[3, 0, 3, 0], buffer, starts);
-    put_arrows(table, buffer, ends)
+    let mut writer = Writer { buffer, end: 0 };
+    writer.put(&[3, 0, 1, 0, table.count]);
+    writer.members(table.count, table.starts, &[3, 0, 2, 0]);
+    writer.members(table.count, table.ends, &[3, 0, 3, 0]);
+    writer.arrows(table);
+    writer.end
 }
 
 /// Writes the one file of a plan to the front of the buffer and answers its length; the bytes behind it stay.

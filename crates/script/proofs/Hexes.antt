@@ -1,47 +1,22 @@
 -- Bytes in hexadecimal: the steps of reading and writing, and that reading gives back what was written.
-use Rattle.std.proofs.Common.{◌≡◌, ℕ, ◌+◌, ◌*◌, ◌/◌, ◌%◌, ◌<◌, ◌≤◌, Bool, true, false, ◌&&◌, ◌||◌, eqb, ltb, List, [], ◌∷◌, ◌++◌, length, get_or, take, drop, refl, ap, ◌∙◌, ap₂, arith}
-use Rattle.std.specs.List.{AllByRecursion as All}
-use Rattle.std.proofs.lemmas.List.{at_drop_more, take_more}
+use Rattle.std.proofs.Common.{◌≡◌, ℕ, ◌+◌, ◌*◌, ◌/◌, ◌%◌, ◌<◌, Bool, true, false, ◌&&◌, ◌||◌, ltb, nat_le, List, [], ◌∷◌, ◌++◌, length, get_or, take, refl, ap, ◌∙◌, ap₂, arith}
+use Rattle.std.specs.Char.{is_ascii_hexdigit}
+use Rattle.std.specs.List.{AllByRecursion as All, list_all}
+use Rattle.std.proofs.lemmas.List.{take_more}
 use Rattle.std.proofs.lemmas.Bool.{cond-true, cond-false, cond_both, lt-leb, le-leb, ltb-true, ltb-false, and_from, and_right}
-use Rattle.script.specs.Hex.{hex_digit, hex_value, hex_digits, hex_word, unhexed, hex_letter, hexed}
+use Rattle.script.specs.Hex.{hex_value, hex_digits, unhexed, hex_letter, hexed}
 
-and_true : (x : Bool) → (x && true) ≡ x
-and_true true = refl
-and_true false = refl
+last_two : (a b c : Bool) → ((a || b) || c) ≡ (a || (c || b))
+last_two true b c = refl
+last_two false true true = refl
+last_two false true false = refl
+last_two false false true = refl
+last_two false false false = refl
 
-and_false : (x : Bool) → (x && false) ≡ false
-and_false true = refl
-and_false false = refl
-
-or_false : (x : Bool) → (x || false) ≡ x
-or_false true = refl
-or_false false = refl
-
-pub digits_more : (word : List ℕ) (i : ℕ) → i < length word → hex_digits (drop i word) ≡ (hex_digit (get_or word i 0) && hex_digits (drop (i + 1) word))
-digits_more word i h = at_drop_more hex_digits word i 0 h
-
-pub hex_single : (w : List ℕ) → length w ≡ 1 → hex_word w ≡ eqb (get_or w 0 0) 45
-hex_single [] e = absurd (omega arith)
-hex_single (a ∷ []) e = or_false (eqb a 45 && true) ∙ and_true (eqb a 45)
-hex_single (a ∷ b ∷ w) e = absurd (omega arith)
-
-pub hex_other : (w : List ℕ) → (length w ≡ 1 → ⊥) → hex_word w ≡ (eqb (length w % 2) 0 && hex_digits w)
-hex_other [] ne = refl
-hex_other (a ∷ []) ne = absurd (ne refl)
-hex_other (a ∷ b ∷ w) ne = ap (λ (x : Bool). x || (eqb (length (a ∷ b ∷ w) % 2) 0 && hex_digits (a ∷ b ∷ w))) (and_false (eqb a 45))
-
--- two digits on
-pub unhexed_more : (word : List ℕ) (i : ℕ) → i + 2 ≤ length word →
-    unhexed (drop i word) ≡ (16 * hex_value (get_or word i 0) + hex_value (get_or word (i + 1) 0)) ∷ unhexed (drop (i + 2) word)
-unhexed_more word i h =
-    at_drop_more unhexed word i 0 (omega arith)
-    ∙ at_drop_more (λ (w : List ℕ). unhexed (get_or word i 0 ∷ w)) word (i + 1) 0 (omega arith)
-    ∙ ap (λ (k : ℕ). (16 * hex_value (get_or word i 0) + hex_value (get_or word (i + 1) 0)) ∷ unhexed (drop k word)) (omega arith)
-
-pub unhexed_short : (w : List ℕ) → length w < 2 → unhexed w ≡ []
-unhexed_short [] h = refl
-unhexed_short (a ∷ []) h = refl
-unhexed_short (a ∷ b ∷ w) h = absurd (omega arith)
+-- std's test of the digits is the crate's
+pub hex_digits_all : (w : List ℕ) → list_all is_ascii_hexdigit w ≡ hex_digits w
+hex_digits_all [] = refl
+hex_digits_all (b ∷ w) = ap₂ ◌&&◌ (last_two (nat_le 48 b && nat_le b 57) (nat_le 65 b && nat_le b 70) (nat_le 97 b && nat_le b 102)) (hex_digits_all w)
 
 hexed_append : (xs ys : List ℕ) → hexed (xs ++ ys) ≡ hexed xs ++ hexed ys
 hexed_append [] ys = refl

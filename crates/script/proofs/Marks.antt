@@ -1,11 +1,11 @@
 -- One pair marked in rows of bytes.
-use Rattle.std.proofs.Common.{◌≡◌, ℕ, ◌+◌, ◌*◌, ◌/◌, ◌%◌, ◌^◌, ◌<◌, Bool, true, false, cond, ◌&&◌, ◌||◌, eqb, List, [], ◌∷◌, length, get_or, set, Some, None, Option, sym, refl, ap, ◌∙◌, ⊎_elim, arith}
+use Rattle.std.proofs.Common.{◌≡◌, ℕ, ◌+◌, ◌*◌, ◌/◌, ◌%◌, ◌^◌, ◌<◌, Bool, true, false, cond, ◌&&◌, ◌||◌, eqb, List, ◌∷◌, length, get_or, set, replicate, Some, Option, sym, refl, ap, ◌∙◌, ⊎_elim, arith}
 use lib.Bits.{bit_or}
 use Rattle.std.proofs.lemmas.Bool.{cases_eq, eq-eqb, ne_eqb, and_left, and_right, cond-true, cond-false}
 use Rattle.automata.specs.Sets.{has}
 use Rattle.automata.proofs.Arrays.{set_get}
-use Rattle.automata.proofs.Bits.{has_along}
-use Rattle.script.specs.Words.{words}
+use Rattle.automata.proofs.Elements.{zero_at}
+use Rattle.automata.proofs.Bits.{has_along, has_zero}
 use Rattle.script.specs.Pairs.{pair_of, names, listed}
 
 -- bit r of row p
@@ -46,8 +46,8 @@ mark_pair b p r l hp hr i j hi hj =
         ⊎_elim (λ e. and_right (eqb p i) (eqb r j) (ne_eqb r j (λ f. ne (omega arith)))) (λ n. and_left (eqb p i) (eqb r j) (ne_eqb p i n)) (cases_eq p i)
 
 -- so far: what is marked, or is listed by the words that are left
-abbrev pub Marked : List ℕ → List ℕ → List ℕ → Type 0
-Marked b left text = (p r : ℕ) → p < 64 → r < 64 → (bit b p r || listed (words left) p r) ≡ listed (words text) p r
+abbrev pub Marked : List ℕ → List (List ℕ) → List (List ℕ) → Type 0
+Marked b left all = (p r : ℕ) → p < 64 → r < 64 → (bit b p r || listed left p r) ≡ listed all p r
 
 shuffle : (a m l : Bool) → ((a || m) || l) ≡ (m || (a || l))
 shuffle true true l = refl
@@ -55,25 +55,15 @@ shuffle true false l = refl
 shuffle false true l = refl
 shuffle false false l = refl
 
-module _ (b left text w rest : List ℕ) (m : Marked b left text) (e : words left ≡ w ∷ words rest) where
-  next : (p r : ℕ) → p < 64 → r < 64 → (bit b p r || (names (pair_of w) p r || listed (words rest) p r)) ≡ listed (words text) p r
-  next p r hp hr = ap (λ (ws : List (List ℕ)). bit b p r || listed ws p r) (sym e) ∙ m p r hp hr
+-- no bit is set before the first word
+pub marked_none : (all : List (List ℕ)) → Marked (replicate 512 0) all all
+marked_none all p r hp hr = ap (λ (x : Bool). x || listed all p r) (ap (λ (x : ℕ). has x (r % 8)) (zero_at 512 (p * 8 + r / 8)) ∙ has_zero (r % 8))
 
-  pub mark_other : pair_of w ≡ None → Marked b rest text
-  mark_other n p r hp hr = ap (λ (x : Option (ℕ × ℕ)). bit b p r || (names x p r || listed (words rest) p r)) (sym n) ∙ next p r hp hr
-
+module _ (b w : List ℕ) (left all : List (List ℕ)) (m : Marked b (w ∷ left) all) where
   pub mark_next : (p r : ℕ) → length b ≡ 512 → p < 64 → r < 64 → pair_of w ≡ Some (p, r) →
-      Marked (set b (p * 8 + r / 8) (bit_or (get_or b (p * 8 + r / 8) 0) (2 ^ (r % 8)))) rest text
+      Marked (set b (p * 8 + r / 8) (bit_or (get_or b (p * 8 + r / 8) 0) (2 ^ (r % 8)))) left all
   mark_next p r l hp hr n i j hi hj =
-      ap (λ (x : Bool). x || listed (words rest) i j) (mark_pair b p r l hp hr i j hi hj)
-      ∙ shuffle (eqb p i && eqb r j) (bit b i j) (listed (words rest) i j)
-      ∙ ap (λ (x : Option (ℕ × ℕ)). bit b i j || (names x i j || listed (words rest) i j)) (sym n)
-      ∙ next i j hi hj
-
-or_none : (a : Bool) → (a || false) ≡ a
-or_none true = refl
-or_none false = refl
-
-pub marked_all : (b left text : List ℕ) → Marked b left text → words left ≡ [] → (p r : ℕ) → p < 64 → r < 64 → bit b p r ≡ listed (words text) p r
-marked_all b left text m e p r hp hr =
-    sym (or_none (bit b p r)) ∙ ap (λ (ws : List (List ℕ)). bit b p r || listed ws p r) (sym e) ∙ m p r hp hr
+      ap (λ (x : Bool). x || listed left i j) (mark_pair b p r l hp hr i j hi hj)
+      ∙ shuffle (eqb p i && eqb r j) (bit b i j) (listed left i j)
+      ∙ ap (λ (x : Option (ℕ × ℕ)). bit b i j || (names x i j || listed left i j)) (sym n)
+      ∙ m i j hi hj

@@ -1,43 +1,52 @@
 -- A word split at its first <.
-use Rattle.std.proofs.Common.{◌≡◌, ℕ, ◌+◌, ◌<◌, ◌≤◌, eqb, List, [], ◌∷◌, ◌++◌, length, get_or, take, drop, sym, refl, ap, ◌∙◌, append_assoc, append-nil, arith}
-use Rattle.std.proofs.lemmas.List.{drop_more, drop_all, take_more}
-use Rattle.std.proofs.lemmas.Bool.{eq-eqb, ne_eqb, cond-true, cond-false}
-use Rattle.script.specs.Pairs.{front, back}
+use Rattle.std.proofs.Common.{◌≡◌, ℕ, ◌+◌, eqb, List, [], ◌∷◌, length, take, drop, Option, Some, None, sym, refl, ap, ◌∙◌, ap₂, ⊎_elim, arith}
+use Rattle.std.specs.List.{position_or_len, position}
+use Rattle.std.specs.Option.{option_zip}
+use Rattle.std.proofs.lemmas.Bool.{cases_Bool, cases_lt, cond-true, lt-ltb}
+use Rattle.std.proofs.lemmas.List.{drop_all}
+use Rattle.std.proofs.lemmas.Option.{cond_some, none-some}
+use Rattle.script.specs.Numbers.{decimal, below}
+use Rattle.script.specs.Pairs.{front, back, both, pair_of}
+use Rattle.script.proofs.Splits.{take_next, drop_next}
 
--- no < stands in the first i bytes
-pub record NoSign (w : List ℕ) (i : ℕ) : Type 0 where
-  pub before : front w ≡ take i w ++ front (drop i w)
-  pub behind : back w ≡ back (drop i w)
+-- where the first < stands
+abbrev pub sign_of : List ℕ → ℕ
+sign_of w = position_or_len (λ b. eqb b 60) w
 
-pub sign_none : (w : List ℕ) → NoSign w 0
-sign_none w = record { before = refl; behind = refl }
+front_is : (w : List ℕ) → front w ≡ take (sign_of w) w
+front_is [] = refl
+front_is (b ∷ w) =
+    ⊎_elim (λ e. rw e refl) (λ e. rw e (ap (λ (x : List ℕ). b ∷ x) (front_is w) ∙ sym (take_next (sign_of w) b w))) (cases_Bool (eqb b 60))
 
-module _ (w : List ℕ) (i : ℕ) (h : i < length w) (n : NoSign w i) where
-  at : drop i w ≡ get_or w i 0 ∷ drop (i + 1) w
-  at = drop_more w i 0 h
+back_is : (w : List ℕ) → back w ≡ drop (sign_of w + 1) w
+back_is [] = refl
+back_is (b ∷ w) =
+    ⊎_elim
+    (λ e. rw e refl)
+    (λ e. rw e (back_is w ∙ sym (ap (λ (k : ℕ). drop k (b ∷ w)) {y = 1 + (sign_of w + 1)} (omega arith) ∙ drop_next (sign_of w + 1) b w)))
+    (cases_Bool (eqb b 60))
 
-  pub sign_more : (get_or w i 0 ≡ 60 → ⊥) → NoSign w (i + 1)
-  sign_more ne =
-      let b = ne_eqb (get_or w i 0) 60 ne in
-      let f : front (drop i w) ≡ get_or w i 0 ∷ front (drop (i + 1) w) = ap front at ∙ cond-false (eqb (get_or w i 0) 60) [] (get_or w i 0 ∷ front (drop (i + 1) w)) b in
-      let g : back (drop i w) ≡ back (drop (i + 1) w) = ap back at ∙ cond-false (eqb (get_or w i 0) 60) (drop (i + 1) w) (back (drop (i + 1) w)) b in
-      record {
-        before = n.before ∙ ap (λ (x : List ℕ). take i w ++ x) f ∙ sym (append_assoc (take i w) (get_or w i 0 ∷ []) (front (drop (i + 1) w)))
-            ∙ ap (λ (x : List ℕ). x ++ front (drop (i + 1) w)) (sym (take_more w i 0 h));
-        behind = n.behind ∙ g;
-      }
+both_none : (o : Option ℕ) → both o None ≡ None
+both_none None = refl
+both_none (Some p) = refl
 
-  pub sign_here : get_or w i 0 ≡ 60 → (take i w ≡ front w) × (drop (i + 1) w ≡ back w)
-  sign_here e =
-      let b = eq-eqb (get_or w i 0) 60 e in
-      let f : front (drop i w) ≡ [] = ap front at ∙ cond-true (eqb (get_or w i 0) 60) [] (get_or w i 0 ∷ front (drop (i + 1) w)) b in
-      let g : back (drop i w) ≡ drop (i + 1) w = ap back at ∙ cond-true (eqb (get_or w i 0) 60) (drop (i + 1) w) (back (drop (i + 1) w)) b in
-      (sym (n.before ∙ ap (λ (x : List ℕ). take i w ++ x) f ∙ append-nil (take i w)), sym (n.behind ∙ g))
+pub both_zip : (o u : Option ℕ) → option_zip o u ≡ both o u
+both_zip None u = refl
+both_zip (Some p) None = refl
+both_zip (Some p) (Some r) = refl
 
-pub sign_nowhere : (w : List ℕ) (i : ℕ) → length w ≤ i → NoSign w i → (take (length w) w ≡ front w) × (drop (length w + 1) w ≡ back w)
-sign_nowhere w i h n =
-    let e : drop i w ≡ [] = drop_all i w h in
-    let t : take i w ≡ take (length w) w = lib.Seq.take_all i w h ∙ sym (lib.Seq.take-length w) in (
-      sym (n.before ∙ ap (λ (x : List ℕ). take i w ++ front x) e ∙ append-nil (take i w) ∙ t),
-      drop_all (length w + 1) w (omega arith) ∙ sym (n.behind ∙ ap back e),
-    )
+-- a word without a < is no pair
+pub no_pair : (w : List ℕ) → position (λ b. eqb b 60) w ≡ None → None ≡ pair_of w
+no_pair w e =
+    ⊎_elim
+    (λ h. absurd (none-some _ (sym e ∙ cond-true _ _ _ (lt-ltb _ _ h))))
+    (λ h. sym (ap (λ (x : List ℕ). both (below 64 (decimal (front w))) (below 64 (decimal x))) (back_is w ∙ drop_all (sign_of w + 1) w (omega arith)) ∙ both_none _))
+    (cases_lt (sign_of w) (length w))
+
+-- a word whose first < stands at i
+pub pair_at : (w : List ℕ) (i : ℕ) → position (λ b. eqb b 60) w ≡ Some i → both (below 64 (decimal (take i w))) (below 64 (decimal (drop (i + 1) w))) ≡ pair_of w
+pair_at w i e =
+    let s = cond_some _ _ _ e in
+    ap₂ (λ (x y : List ℕ). both (below 64 (decimal x)) (below 64 (decimal y)))
+    (ap (λ (k : ℕ). take k w) (sym s.1) ∙ sym (front_is w))
+    (ap (λ (k : ℕ). drop (k + 1) w) (sym s.1) ∙ sym (back_is w))

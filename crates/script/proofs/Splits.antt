@@ -1,55 +1,84 @@
--- The words of a line, byte by byte.
-use Rattle.std.proofs.Common.{◌≡◌, ℕ, zero, suc, ◌+◌, ◌-◌, ◌<◌, ◌≤◌, true, false, cond, List, [], ◌∷◌, ◌++◌, length, get_or, take, drop, sym, refl, ap, ◌∙◌, ap₂, ⊎_elim, add-zero, arith}
-use native.Mathlib.Nat.{sub-zero}
-use Rattle.std.proofs.lemmas.List.{at_drop_more, at_drop_all, take_more, take_rest, length-drop, get_or-drop}
-use Rattle.std.proofs.lemmas.Bool.{cond-true, cond-false, cases_lt}
+-- The words of a line: the blanks in front, and the first word behind them.
+use Rattle.std.proofs.Common.{◌≡◌, ℕ, zero, suc, ◌+◌, ◌-◌, ◌<◌, ◌≤◌, false, not, List, [], ◌∷◌, ◌++◌, length, get_or, take, drop, Option, Some, None, sym, refl, ap, ◌∙◌, ⊎_elim, append-nil, append_assoc, ap₂, arith}
+use Rattle.std.specs.List.{position_or_len, position}
+use Rattle.std.specs.Option.{unwrap_or}
+use Rattle.std.proofs.lemmas.Bool.{cases_Bool, cases_lt, cond-true, cond-false, lt-ltb, le-ltb, ltb-true, not-true}
+use Rattle.std.proofs.lemmas.List.{drop_all, get_or-drop, length-drop}
+use Rattle.std.proofs.lemmas.List.Sums.{prefix_len-le-length, passes_at_first}
+use Rattle.std.proofs.lemmas.Option.{cond_some, none-some}
 use Rattle.script.specs.Words.{blank, before, words_behind, words}
 
--- one byte on
-pub behind_more : (w line : List ℕ) (i : ℕ) → i < length line →
-    words_behind w (drop i line) ≡ cond (blank (get_or line i 0)) (before w (words (drop (i + 1) line))) (words_behind (w ++ (get_or line i 0 ∷ [])) (drop (i + 1) line))
-behind_more w line i h = at_drop_more (words_behind w) line i 0 h
+-- where the first byte stands that is no blank
+abbrev pub start_of : List ℕ → ℕ
+start_of line = position_or_len (λ b. not (blank b)) line
 
--- a blank in front changes no words
-pub words_blank : (line : List ℕ) (i : ℕ) → i < length line → blank (get_or line i 0) ≡ true → words (drop i line) ≡ words (drop (i + 1) line)
-words_blank line i h e = behind_more [] line i h ∙ cond-true _ _ _ e
+-- where the first blank stands
+abbrev pub end_of : List ℕ → ℕ
+end_of text = position_or_len blank text
 
--- another byte belongs to the word
-pub behind_letter : (line : List ℕ) (i : ℕ) → i < length line → blank (get_or line i 0) ≡ false →
-    words_behind (take i line) (drop i line) ≡ words_behind (take (i + 1) line) (drop (i + 1) line)
-behind_letter line i h e =
-    behind_more (take i line) line i h ∙ cond-false _ _ _ e
-    ∙ ap (λ (w : List ℕ). words_behind w (drop (i + 1) line)) (sym (take_more line i 0 h))
+pub drop_next : (n b : ℕ) (bs : List ℕ) → drop (1 + n) (b ∷ bs) ≡ drop n bs
+drop_next n b bs = ap (λ (k : ℕ). drop k (b ∷ bs)) {y = suc n} (omega arith)
 
--- a word ends at a blank, and at the end of the line
-pub word_at_blank : (w line : List ℕ) (i : ℕ) → i < length line → blank (get_or line i 0) ≡ true →
-    words_behind w (drop i line) ≡ before w (words (drop i line))
-word_at_blank w line i h e =
-    behind_more w line i h ∙ cond-true _ _ _ e ∙ ap (before w) (sym (words_blank line i h e))
+pub take_next : (n b : ℕ) (bs : List ℕ) → take (1 + n) (b ∷ bs) ≡ b ∷ take n bs
+take_next n b bs = ap (λ (k : ℕ). take k (b ∷ bs)) {y = suc n} (omega arith)
 
-pub word_at_end : (w line : List ℕ) (i : ℕ) → length line ≤ i → words_behind w (drop i line) ≡ before w (words (drop i line))
-word_at_end w line i h = at_drop_all (words_behind w) line i h ∙ ap (before w) (sym (at_drop_all words line i h))
+-- blanks in front change no words
+pub words-start_of : (line : List ℕ) → words (drop (start_of line) line) ≡ words line
+words-start_of [] = refl
+words-start_of (b ∷ bs) =
+    ⊎_elim
+    (λ e. rw e (ap words (drop_next (start_of bs) b bs) ∙ words-start_of bs))
+    (λ e. rw e (rw e refl))
+    (cases_Bool (blank b))
 
-pub words_at : (line : List ℕ) (i j : ℕ) → j ≡ i → words (drop j line) ≡ words (drop i line)
-words_at line i j e = ap (λ (k : ℕ). words (drop k line)) e
+-- a text behind a part w of a word: the word ends at the first blank
+pub words_behind-end_of : (w text : List ℕ) → words_behind w text ≡ before (w ++ take (end_of text) text) (words (drop (end_of text) text))
+words_behind-end_of w [] = ap (λ (v : List ℕ). before v []) (sym (append-nil w))
+words_behind-end_of w (b ∷ bs) =
+    ⊎_elim
+    (λ e. rw e (rw e (ap (λ (v : List ℕ). before v (words bs)) (sym (append-nil w)))))
+    (λ e. rw e (words_behind-end_of (w ++ (b ∷ [])) bs
+    ∙ ap₂ {C = List (List ℕ)} before
+    (append_assoc w (b ∷ []) (take (end_of bs) bs) ∙ ap (λ (v : List ℕ). w ++ v) (sym (take_next (end_of bs) b bs)))
+    (ap words (sym (drop_next (end_of bs) b bs)))))
+    (cases_Bool (blank b))
 
 pub before_some : (n : ℕ) (text : List ℕ) (ws : List (List ℕ)) → n ≤ length text → (n ≡ 0 → ⊥) → before (take n text) ws ≡ take n text ∷ ws
 before_some zero text ws h ne = absurd (ne refl)
 before_some (suc n) [] ws h ne = absurd (omega arith)
 before_some (suc n) (b ∷ bs) ws h ne = refl
 
--- a line of blanks has no words: k is how many it begins with, and n how long the word behind them is
-pub no_word : (line : List ℕ) (k n : ℕ) → words (drop k line) ≡ words line → (k < length line → blank (get_or line k 0) ≡ false) →
-    (0 < length (drop k line) → blank (get_or (drop k line) 0 0) ≡ false → 0 < n) → n ≡ 0 → words line ≡ []
-no_word line k n same stops some z =
+-- a line without a byte that is no blank has no words
+pub no_words : (line : List ℕ) → position (λ b. not (blank b)) line ≡ None → words line ≡ []
+no_words line e =
     ⊎_elim
-    (λ h. absurd (omega (arith, some (simp length-drop (omega arith)) (ap blank (get_or-drop k line 0 0 ∙ ap (λ (j : ℕ). get_or line j 0) (add-zero k)) ∙ stops h))))
-    (λ h. sym same ∙ at_drop_all words line k h)
-    (cases_lt k (length line))
+    (λ h. absurd (none-some _ (sym e ∙ cond-true _ _ _ (lt-ltb _ _ h))))
+    (λ h. sym (words-start_of line) ∙ ap words (drop_all (start_of line) line h))
+    (cases_lt (start_of line) (length line))
 
--- the word behind the blanks is the first
-pub some_word : (text : List ℕ) (n : ℕ) → n ≤ length text → words text ≡ before (take n text) (words (drop n text)) → (n ≡ 0 → ⊥) →
-    words text ≡ take (n - 0) text ∷ words (take (length text - n) (drop n text))
-some_word text n within first ne =
-    first ∙ before_some n text _ within ne
-    ∙ ap₂ {C = List (List ℕ)} (λ (w rest : List ℕ). w ∷ words rest) (ap (λ (j : ℕ). take j text) (sym (sub-zero n))) (sym (take_rest text n))
+end_found : (text : List ℕ) → unwrap_or (position blank text) (length text) ≡ end_of text
+end_found text =
+    ⊎_elim
+    (λ h. ap (λ (o : Option ℕ). unwrap_or o (length text)) (cond-true _ _ _ (lt-ltb _ _ h)))
+    (λ h. ap (λ (o : Option ℕ). unwrap_or o (length text)) (cond-false _ _ _ (le-ltb _ _ h)) ∙ omega (arith, prefix_len-le-length (λ b. not (blank b)) text))
+    (cases_lt (end_of text) (length text))
+
+end_past : (text : List ℕ) → 0 < length text → blank (get_or text 0 0) ≡ false → 0 < end_of text
+end_past [] h e = absurd (omega arith)
+end_past (b ∷ bs) h e = rw e (omega arith)
+
+-- the first word of a line and what follows it: its first byte that is no blank stands at i, and the word has n bytes
+pub first_word_at : (line text : List ℕ) (i n : ℕ) → position (λ b. not (blank b)) line ≡ Some i → text ≡ drop i line → n ≡ unwrap_or (position blank text) (length text) →
+    (words line ≡ take n text ∷ words (drop n text)) × (length (drop n text) < length line)
+first_word_at line text i n e t f =
+    let s = cond_some _ _ _ e in
+    let inside : i < length line = omega (arith, ltb-true _ _ s.0, s.1) in
+    let same : words text ≡ words line = ap words (t ∙ ap (λ (k : ℕ). drop k line) (sym s.1)) ∙ words-start_of line in
+    let letter : blank (get_or text 0 0) ≡ false = not-true _ (ap (λ (b : ℕ). not (blank b)) (ap (λ (x : List ℕ). get_or x 0 0) t ∙ get_or-drop i line 0 0 ∙ ap (λ (k : ℕ). get_or line k 0) (omega (arith, s.1))) ∙ passes_at_first (λ b. not (blank b)) line 0 (ltb-true _ _ s.0)) in
+    let l : length text ≡ length line - i = ap length t ∙ length-drop i line in
+    let m : n ≡ end_of text = f ∙ end_found text in
+    let some : 0 < n = omega (arith, m, end_past text (omega arith) letter) in
+    let within : n ≤ length text = omega (arith, m, prefix_len-le-length (λ b. not (blank b)) text) in (
+      sym same ∙ words_behind-end_of [] text ∙ ap (λ (k : ℕ). before (take k text) (words (drop k text))) (sym m) ∙ before_some n text _ within (omega arith),
+      simp length-drop (omega arith),
+    )

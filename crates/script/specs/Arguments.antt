@@ -5,6 +5,9 @@ use Rattle.script.specs.Numbers.{below, decimal, command_number}
 use Rattle.script.specs.Hex.{hex_word}
 use Rattle.script.specs.OrderNames.{order_of}
 use Rattle.script.specs.declared.order_name.OrderName.{OrderName}
+use Rattle.script.specs.declared.terms.Terms.{Terms}
+use Rattle.script.specs.declared.arguments.PlanOrSide.{PlanOrSide}
+use Rattle.script.specs.declared.arguments.PlanOrSide.TheVariants as code
 
 -- a name begins with a letter
 abbrev pub name_word : List ℕ → Bool
@@ -99,6 +102,10 @@ abbrev pub bytes_or : ℕ → List (List ℕ) → Option ℕ
 bytes_or n [] = Some n
 bytes_or n (w ∷ ws) = given (next length_of (w ∷ ws)) (λ a. last a.0 a.1)
 
+-- the terms of a search, one after another
+abbrev pub terms_said : Terms → OrderName × ℕ × ℕ
+terms_said t = (t.order, t.slots, t.bytes)
+
 -- ORDER SLOTS [RUNBYTES], which is SLOTS where it is left out
 unfoldable pub order_slots_bytes : List (List ℕ) → Option (OrderName × ℕ × ℕ)
 order_slots_bytes ws = given (next order_of ws) (λ a. given (next length_of a.1) (λ b. option_map (λ n. (a.0, b.0, n)) (bytes_or b.0 b.1)))
@@ -115,3 +122,21 @@ count_and_search ws = given (next byte_of ws) (λ a. option_map (λ s. (a.0, s.0
 -- NAME K ORDER SLOTS [RUNBYTES]
 unfoldable pub name_count_and_search : List (List ℕ) → Option (List ℕ × ℕ × OrderName × ℕ × ℕ)
 name_count_and_search ws = given (next name_of ws) (λ a. option_map (λ s. (a.0, s.0, s.1, s.2, s.3)) (count_and_search a.1))
+
+-- what is shown or drawn, with the bytes of a name in place of a reference to them
+pub data Subject : Type 0 where
+  plan : List ℕ → Subject
+  side : ℕ → Subject
+
+-- what the code's value says
+abbrev pub subject_said : PlanOrSide → Subject
+subject_said (code.Plan name) = plan name.now
+subject_said (code.Side n) = side n
+
+-- NAME or SIDE
+abbrev pub subject_of : List ℕ → Option Subject
+subject_of w = cond (name_word w) (Some (plan w)) (option_map side (byte_of w))
+
+-- the same alone
+abbrev pub subject_alone : List (List ℕ) → Option Subject
+subject_alone ws = given (next subject_of ws) (λ a. last a.0 a.1)

@@ -22,11 +22,11 @@ pub data SearchSaid : Type 0 where
 
 -- what a statement of the code says
 abbrev pub search_said : SearchStatement → SearchSaid
-search_said (code.ComparePlans first second order n bytes) = compare_plans first.now second.now order n bytes
-search_said (code.OpenPlan name k order n bytes) = open_plan name.now k order n bytes
+search_said (code.ComparePlans first second terms) = compare_plans first.now second.now terms.order terms.slots terms.bytes
+search_said (code.OpenPlan name k terms) = open_plan name.now k terms.order terms.slots terms.bytes
 search_said code.Slots = slots
-search_said (code.Compare order n bytes) = compare order n bytes
-search_said (code.Open k order n bytes) = open_rule k order n bytes
+search_said (code.Compare terms) = compare terms.order terms.slots terms.bytes
+search_said (code.Open k terms) = open_rule k terms.order terms.slots terms.bytes
 search_said code.Release = release
 search_said (code.DrawPlan name) = draw_plan name.now
 search_said (code.DrawSide side) = draw_side side

@@ -1,5 +1,6 @@
 -- The words of a line.
 use Rattle.std.specs.Prelude.{ℕ, Bool, cond, ◌||◌, List, [], ◌∷◌, ◌++◌, ◌==◌}
+use Rattle.script.specs.declared.words.Words.{Words}
 
 -- space, tab and carriage return stand between words
 abbrev pub blank : ℕ → Bool
@@ -18,3 +19,7 @@ words_behind w (b ∷ bs) = cond (blank b) (before w (words_behind [] bs)) (word
 -- the words of a line: its longest runs of bytes that are no blanks
 abbrev pub words : List ℕ → List (List ℕ)
 words line = words_behind [] line
+
+-- the words that have not come yet
+abbrev pub words_left : Words → List (List ℕ)
+words_left w = words w.left.now

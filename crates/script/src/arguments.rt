@@ -1,253 +1,168 @@
 ghost use Rattle.std.specs.Prelude.{◌≡◌};
 ghost use Rattle.std.specs.Option.{option_map};
-ghost use Rattle.script.specs.Words.{words};
-ghost use Rattle.script.specs.Numbers.{command_number};
-ghost use Rattle.script.specs.OrderNames.{order_of};
-ghost use Rattle.script.specs.Arguments.{name_word, name_of, hex_of, byte_of, length_of, next, no_words, name_alone, name_and_hex, side_alone, side_and_state, side_and_arrow, buffer_alone, side_and_buffer, hex_alone, two_names, order_alone, two_names_and_order, bytes_or, order_slots_bytes, two_names_and_search, count_and_search, name_count_and_search};
+ghost use Rattle.script.specs.Words.{words_left};
+ghost use Rattle.script.specs.Arguments.{name_of, hex_of, last, name_alone, name_and_hex, side_alone, side_and_state, side_and_arrow, side_and_buffer, hex_alone, two_names, order_alone, bytes_or, terms_said, order_slots_bytes, count_and_search, subject_said, subject_alone};
 
 use crate::hex::is_hex;
 use crate::numbers::{byte, command, length};
 use crate::order_name::{OrderName, order_name};
-use crate::words::first_word;
+use crate::terms::Terms;
+use crate::words::Words;
 
-/// Whether the word is a name: it begins with a letter.
-pub(crate) fn is_name(word: &[u8]) -> bool
-    ensures { result ≡ name_word word.now }
-{
-    word.len() > 0 && matches!(word[0], b'a'..=b'z' | b'A'..=b'Z')
+/// What is shown or drawn: the plan of a name, or a side.
+#[derive(Clone, Copy)]
+pub(crate) enum PlanOrSide<'a> {
+    Plan(&'a [u8]),
+    Side(u8),
 }
 
-/// The first word as a number below 256, and what follows it.
-fn next_byte(text: &[u8]) -> Option<(u8, &[u8])>
-    ensures { option_map (λ x. (x.0, words x.1.now)) result ≡ next byte_of (words text.now) }
+/// The word as a name: it begins with a letter.
+pub(crate) fn name(word: &[u8]) -> Option<&[u8]>
+    ensures { option_map (λ x. x.now) result ≡ name_of word.now }
 {
-    let (word, rest) = first_word(text)?;
-    Some((byte(word)?, rest))
+    word.first()?.is_ascii_alphabetic().then_some(word)
 }
 
-/// The first word as a number of slots, and what follows it.
-fn next_length(text: &[u8]) -> Option<(usize, &[u8])>
-    ensures { option_map (λ x. (x.0, words x.1.now)) result ≡ next length_of (words text.now) }
+/// The word as the digits of bytes.
+fn hex(word: &[u8]) -> Option<&[u8]>
+    ensures { option_map (λ x. x.now) result ≡ hex_of word.now }
 {
-    let (word, rest) = first_word(text)?;
-    Some((length(word)?, rest))
+    is_hex(word).then_some(word)
 }
 
-/// The first word as a command, and what follows it.
-fn next_command(text: &[u8]) -> Option<(u8, &[u8])>
-    ensures { option_map (λ x. (x.0, words x.1.now)) result ≡ next command_number (words text.now) }
+/// The value, if no words are left.
+pub(crate) fn last<T: Drop>(value: T, mut words: Words<'_>) -> Option<T>
+    ensures { result ≡ last value (words_left words.entry) }
 {
-    let (word, rest) = first_word(text)?;
-    Some((command(word)?, rest))
+    words.next().is_none().then_some(value)
 }
 
-/// The first word as a name, and what follows it.
-fn next_name(text: &[u8]) -> Option<(&[u8], &[u8])>
-    ensures { option_map (λ x. (x.0.now, words x.1.now)) result ≡ next name_of (words text.now) }
-{
-    let (word, rest) = first_word(text)?;
-    if is_name(word) {
-        Some((word, rest))
-    } else {
-        None
-    }
-}
-
-/// The first word as the digits of bytes, and what follows it.
-fn next_hex(text: &[u8]) -> Option<(&[u8], &[u8])>
-    ensures { option_map (λ x. (x.0.now, words x.1.now)) result ≡ next hex_of (words text.now) }
-{
-    let (word, rest) = first_word(text)?;
-    if is_hex(word) {
-        Some((word, rest))
-    } else {
-        None
-    }
-}
-
-/// Whether the text has no word.
-pub(crate) fn is_end(text: &[u8]) -> bool
-    ensures { result ≡ no_words (words text.now) }
-{
-    first_word(text).is_none()
-}
-
+// Stays: a function for each list of arguments, each with its definition in specs/Arguments.antt. One function over the
+// words' readers would say what it answers by the `post` of closures, and each call of it would need a proof.
 /// One name.
-pub(crate) fn name_alone(text: &[u8]) -> Option<&[u8]>
-    ensures { option_map (λ x. x.now) result ≡ name_alone (words text.now) }
+pub(crate) fn name_alone(mut words: Words<'_>) -> Option<&[u8]>
+    ensures { option_map (λ x. x.now) result ≡ name_alone (words_left words.entry) }
 {
-    let (name, rest) = next_name(text)?;
-    if is_end(rest) { Some(name) } else { None }
+    let name = name(words.next()?)?;
+    last(name, words)
 }
 
 /// A name and the digits of bytes.
-pub(crate) fn name_and_hex(text: &[u8]) -> Option<(&[u8], &[u8])>
-    ensures { option_map (λ x. (x.0.now, x.1.now)) result ≡ name_and_hex (words text.now) }
+pub(crate) fn name_and_hex(mut words: Words<'_>) -> Option<(&[u8], &[u8])>
+    ensures { option_map (λ x. (x.0.now, x.1.now)) result ≡ name_and_hex (words_left words.entry) }
 {
-    let (name, rest) = next_name(text)?;
-    let (hex, rest) = next_hex(rest)?;
-    if is_end(rest) {
-        Some((name, hex))
-    } else {
-        None
-    }
+    let name = name(words.next()?)?;
+    let hex = hex(words.next()?)?;
+    last((name, hex), words)
 }
 
 /// One side.
-pub(crate) fn side_alone(text: &[u8]) -> Option<u8>
-    ensures { result ≡ side_alone (words text.now) }
+pub(crate) fn side_alone(mut words: Words<'_>) -> Option<u8>
+    ensures { result ≡ side_alone (words_left words.entry) }
 {
-    let (side, rest) = next_byte(text)?;
-    if is_end(rest) { Some(side) } else { None }
+    let side = byte(words.next()?)?;
+    last(side, words)
 }
 
 /// A side and a state.
-pub(crate) fn side_and_state(text: &[u8]) -> Option<(u8, u8)>
-    ensures { result ≡ side_and_state (words text.now) }
+pub(crate) fn side_and_state(mut words: Words<'_>) -> Option<(u8, u8)>
+    ensures { result ≡ side_and_state (words_left words.entry) }
 {
-    let (side, rest) = next_byte(text)?;
-    let (state, rest) = next_byte(rest)?;
-    if is_end(rest) {
-        Some((side, state))
-    } else {
-        None
-    }
+    let side = byte(words.next()?)?;
+    let state = byte(words.next()?)?;
+    last((side, state), words)
 }
 
 /// A side and an arrow: a state, a command and a state.
-pub(crate) fn side_and_arrow(text: &[u8]) -> Option<(u8, u8, u8, u8)>
-    ensures { result ≡ side_and_arrow (words text.now) }
+pub(crate) fn side_and_arrow(mut words: Words<'_>) -> Option<(u8, u8, u8, u8)>
+    ensures { result ≡ side_and_arrow (words_left words.entry) }
 {
-    let (side, rest) = next_byte(text)?;
-    let (from, rest) = next_byte(rest)?;
-    let (command, rest) = next_command(rest)?;
-    let (to, rest) = next_byte(rest)?;
-    if is_end(rest) {
-        Some((side, from, command, to))
-    } else {
-        None
-    }
-}
-
-/// The length of a buffer, which is 8192 where it is left out.
-fn buffer_alone(text: &[u8]) -> Option<usize>
-    ensures { result ≡ buffer_alone (words text.now) }
-{
-    match first_word(text) {
-        None => Some(8192),
-        Some((word, rest)) => {
-            let buffer = length(word)?;
-            if is_end(rest) { Some(buffer) } else { None }
-        }
-    }
-}
-
-/// A side and the length of a buffer.
-pub(crate) fn side_and_buffer(text: &[u8]) -> Option<(u8, usize)>
-    ensures { result ≡ side_and_buffer (words text.now) }
-{
-    let (side, rest) = next_byte(text)?;
-    Some((side, buffer_alone(rest)?))
-}
-
-/// The first word as the name of an order, and what follows it.
-fn next_order(text: &[u8]) -> Option<(OrderName, &[u8])>
-    ensures { option_map (λ x. (x.0, words x.1.now)) result ≡ next order_of (words text.now) }
-{
-    let (word, rest) = first_word(text)?;
-    Some((order_name(word)?, rest))
-}
-
-/// The digits of bytes.
-pub(crate) fn hex_alone(text: &[u8]) -> Option<&[u8]>
-    ensures { option_map (λ x. x.now) result ≡ hex_alone (words text.now) }
-{
-    let (hex, rest) = next_hex(text)?;
-    if is_end(rest) { Some(hex) } else { None }
-}
-
-/// Two names.
-pub(crate) fn two_names(text: &[u8]) -> Option<(&[u8], &[u8])>
-    ensures { option_map (λ x. (x.0.now, x.1.now)) result ≡ two_names (words text.now) }
-{
-    let (first, rest) = next_name(text)?;
-    let (second, rest) = next_name(rest)?;
-    if is_end(rest) {
-        Some((first, second))
-    } else {
-        None
-    }
-}
-
-/// The name of an order.
-pub(crate) fn order_alone(text: &[u8]) -> Option<OrderName>
-    ensures { result ≡ order_alone (words text.now) }
-{
-    let (order, rest) = next_order(text)?;
-    if is_end(rest) { Some(order) } else { None }
-}
-
-/// Two names and the name of an order.
-pub(crate) fn two_names_and_order(text: &[u8]) -> Option<(&[u8], &[u8], OrderName)>
-    ensures { option_map (λ x. (x.0.now, x.1.now, x.2)) result ≡ two_names_and_order (words text.now) }
-{
-    let (first, rest) = next_name(text)?;
-    let (second, rest) = next_name(rest)?;
-    let (order, rest) = next_order(rest)?;
-    if is_end(rest) {
-        Some((first, second, order))
-    } else {
-        None
-    }
+    let side = byte(words.next()?)?;
+    let from = byte(words.next()?)?;
+    let command = command(words.next()?)?;
+    let to = byte(words.next()?)?;
+    last((side, from, command, to), words)
 }
 
 /// A number of bytes, which is `otherwise` where it is left out.
-fn bytes_or(text: &[u8], otherwise: usize) -> Option<usize>
-    ensures { result ≡ bytes_or otherwise (words text.now) }
+fn bytes_or(mut words: Words<'_>, otherwise: usize) -> Option<usize>
+    ensures { result ≡ bytes_or otherwise (words_left words.entry) }
 {
-    match first_word(text) {
+    match words.next() {
         None => Some(otherwise),
-        Some((word, rest)) => {
-            let bytes = length(word)?;
-            if is_end(rest) { Some(bytes) } else { None }
-        }
+        Some(word) => last(length(word)?, words),
     }
 }
 
-/// The name of an order, a number of slots, and the length of a run buffer, which has a byte for each slot where it is
-/// left out.
-pub(crate) fn order_slots_bytes(text: &[u8]) -> Option<(OrderName, usize, usize)>
-    ensures { result ≡ order_slots_bytes (words text.now) }
+/// A side and the length of a buffer, which is 8192 where it is left out.
+pub(crate) fn side_and_buffer(mut words: Words<'_>) -> Option<(u8, usize)>
+    ensures { result ≡ side_and_buffer (words_left words.entry) }
 {
-    let (order, rest) = next_order(text)?;
-    let (slots, rest) = next_length(rest)?;
-    Some((order, slots, bytes_or(rest, slots)?))
+    let side = byte(words.next()?)?;
+    let buffer = bytes_or(words, 8192)?;
+    Some((side, buffer))
 }
 
-/// Two names, and an order with slots and a run buffer.
-pub(crate) fn two_names_and_search(text: &[u8]) -> Option<(&[u8], &[u8], OrderName, usize, usize)>
-    ensures { option_map (λ x. (x.0.now, x.1.now, x.2, x.3, x.4)) result ≡ two_names_and_search (words text.now) }
+/// The digits of bytes.
+pub(crate) fn hex_alone(mut words: Words<'_>) -> Option<&[u8]>
+    ensures { option_map (λ x. x.now) result ≡ hex_alone (words_left words.entry) }
 {
-    let (first, rest) = next_name(text)?;
-    let (second, rest) = next_name(rest)?;
-    let (order, slots, bytes) = order_slots_bytes(rest)?;
-    Some((first, second, order, slots, bytes))
+    let hex = hex(words.next()?)?;
+    last(hex, words)
 }
 
-/// A number of commands, and an order with slots and a run buffer.
-pub(crate) fn count_and_search(text: &[u8]) -> Option<(u8, OrderName, usize, usize)>
-    ensures { result ≡ count_and_search (words text.now) }
+// Stays: one function over `&mut Words` would spare a line in three places and need a definition of what is left.
+/// Two names.
+pub(crate) fn two_names(mut words: Words<'_>) -> Option<(&[u8], &[u8])>
+    ensures { option_map (λ x. (x.0.now, x.1.now)) result ≡ two_names (words_left words.entry) }
 {
-    let (commands, rest) = next_byte(text)?;
-    let (order, slots, bytes) = order_slots_bytes(rest)?;
-    Some((commands, order, slots, bytes))
+    let first = name(words.next()?)?;
+    let second = name(words.next()?)?;
+    last((first, second), words)
 }
 
-/// A name, a number of commands, and an order with slots and a run buffer.
-pub(crate) fn name_count_and_search(text: &[u8]) -> Option<(&[u8], u8, OrderName, usize, usize)>
-    ensures { option_map (λ x. (x.0.now, x.1, x.2, x.3, x.4)) result ≡ name_count_and_search (words text.now) }
+/// The name of an order.
+pub(crate) fn order_alone(mut words: Words<'_>) -> Option<OrderName>
+    ensures { result ≡ order_alone (words_left words.entry) }
 {
-    let (name, rest) = next_name(text)?;
-    let (commands, order, slots, bytes) = count_and_search(rest)?;
-    Some((name, commands, order, slots, bytes))
+    let order = order_name(words.next()?)?;
+    last(order, words)
+}
+
+/// The plan of a name, or a side.
+pub(crate) fn plan_or_side(mut words: Words<'_>) -> Option<PlanOrSide<'_>>
+    ensures { option_map subject_said result ≡ subject_alone (words_left words.entry) }
+{
+    let word = words.next()?;
+    let subject = match name(word) {
+        Some(name) => PlanOrSide::Plan(name),
+        None => PlanOrSide::Side(byte(word)?),
+    };
+    last(subject, words)
+}
+
+/// The terms of a search: the name of an order, a number of slots, and the length of a run buffer, which has a byte for
+/// each slot where it is left out.
+#[tactic(auto, unfolding(crate::specs::Arguments::order_slots_bytes))]
+pub(crate) fn terms(mut words: Words<'_>) -> Option<Terms>
+    ensures { option_map terms_said result ≡ order_slots_bytes (words_left words.entry) }
+{
+    let order = order_name(words.next()?)?;
+    let slots = length(words.next()?)?;
+    let bytes = bytes_or(words, slots)?;
+    Some(Terms {
+        order,
+        slots,
+        bytes,
+    })
+}
+
+/// A number of commands, and the terms of a search.
+#[tactic(auto, unfolding(crate::specs::Arguments::count_and_search))]
+pub(crate) fn count_and_terms(mut words: Words<'_>) -> Option<(u8, Terms)>
+    ensures { option_map (λ x. (x.0, x.1.order, x.1.slots, x.1.bytes)) result ≡ count_and_search (words_left words.entry) }
+{
+    let commands = byte(words.next()?)?;
+    let terms = terms(words)?;
+    Some((commands, terms))
 }

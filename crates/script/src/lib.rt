@@ -9,5 +9,6 @@ pub mod pairs;
 pub mod search_statement;
 mod search_verb;
 pub mod statement;
+pub mod terms;
 mod verb;
 pub mod words;

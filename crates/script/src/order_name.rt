@@ -1,10 +1,8 @@
 ghost use Rattle.std.specs.Prelude.{◌≡◌};
 ghost use Rattle.script.specs.OrderNames.{order_of};
 
-use crate::words::is_text;
-
 /// The name of an order.
-#[derive(Clone, Copy)]
+#[derive(Clone, Copy, Debug, PartialEq, Eq)]
 pub enum OrderName {
     /// Each state is below itself and no other.
     Same,
@@ -14,17 +12,15 @@ pub enum OrderName {
     Delivered,
 }
 
+// Stays: no plainer: `TryFrom` would hand out `()` as an error, which each caller would turn into `None` by `ok()`.
 /// The order that the word names, if it names one.
 pub(crate) fn order_name(word: &[u8]) -> Option<OrderName>
     ensures { result ≡ order_of word.now }
 {
-    if is_text(word, b"same") {
-        Some(OrderName::Same)
-    } else if is_text(word, b"greatest") {
-        Some(OrderName::Greatest)
-    } else if is_text(word, b"delivered") {
-        Some(OrderName::Delivered)
-    } else {
-        None
+    match word {
+        b"same" => Some(OrderName::Same),
+        b"greatest" => Some(OrderName::Greatest),
+        b"delivered" => Some(OrderName::Delivered),
+        _ => None,
     }
 }

@@ -1,20 +1,19 @@
 ghost use Rattle.std.specs.Prelude.{◌≡◌};
 ghost use Rattle.std.specs.Option.{option_map};
-ghost use Rattle.script.specs.Words.{words};
-ghost use Rattle.script.specs.Statements.{said, passed_over, shown_of, behind, statement};
+ghost use Rattle.script.specs.Words.{words, words_left};
+ghost use Rattle.script.specs.Statements.{said, passed_over, behind, statement};
 
 use crate::arguments::{
-    hex_alone, is_end, is_name, name_alone, name_and_hex, order_alone, side_alone, side_and_arrow,
-    side_and_buffer, side_and_state, two_names, two_names_and_order,
+    PlanOrSide, hex_alone, last, name, name_alone, name_and_hex, order_alone, plan_or_side,
+    side_alone, side_and_arrow, side_and_buffer, side_and_state, two_names,
 };
-use crate::numbers::byte;
-use crate::order_name::OrderName;
+use crate::order_name::{OrderName, order_name};
 use crate::pairs::are_pairs;
 use crate::verb::{Verb, read_verb};
-use crate::words::first_word;
+use crate::words::{Words, first_word};
 
 /// A statement of a script. It borrows its names from the line.
-#[derive(Clone, Copy)]
+#[derive(Clone, Copy, Debug, PartialEq, Eq)]
 pub enum Statement<'a> {
     /// A plan under a name, as the file of bytes that the word spells.
     Plan {
@@ -58,6 +57,7 @@ pub enum Statement<'a> {
         side: u8,
         buffer: usize,
     },
+    // Stays: no plainer: one case over `PlanOrSide` would make that type public and add a match in `said`.
     /// The named plan, for a person to read.
     ShowPlan {
         name: &'a [u8],
@@ -97,161 +97,32 @@ pub enum Statement<'a> {
 pub fn is_passed_over(line: &[u8]) -> bool
     ensures { result ≡ passed_over (words line.now) }
 {
-    match first_word(line) {
-        None => true,
-        Some((word, _)) => word.len() > 0 && word[0] == b'#',
-    }
-}
-
-/// `plan NAME HEX`
-fn plan(text: &[u8]) -> Option<Statement<'_>>
-    ensures { option_map said result ≡ behind Verb.Plan (words text.now) }
-{
-    let (name, hex) = name_and_hex(text)?;
-    Some(Statement::Plan { name, hex })
-}
-
-/// `rewrite NAME`
-fn rewrite(text: &[u8]) -> Option<Statement<'_>>
-    ensures { option_map said result ≡ behind Verb.Rewrite (words text.now) }
-{
-    let name = name_alone(text)?;
-    Some(Statement::Rewrite { name })
-}
-
-/// `state SIDE`
-fn state(text: &[u8]) -> Option<Statement<'_>>
-    ensures { option_map said result ≡ behind Verb.State (words text.now) }
-{
-    let side = side_alone(text)?;
-    Some(Statement::State { side })
-}
-
-/// `start SIDE STATE`
-fn start(text: &[u8]) -> Option<Statement<'_>>
-    ensures { option_map said result ≡ behind Verb.Start (words text.now) }
-{
-    let (side, state) = side_and_state(text)?;
-    Some(Statement::Start { side, state })
-}
-
-/// `end SIDE STATE`
-fn end(text: &[u8]) -> Option<Statement<'_>>
-    ensures { option_map said result ≡ behind Verb.End (words text.now) }
-{
-    let (side, state) = side_and_state(text)?;
-    Some(Statement::End { side, state })
-}
-
-/// `arrow SIDE STATE COMMAND STATE`
-fn arrow(text: &[u8]) -> Option<Statement<'_>>
-    ensures { option_map said result ≡ behind Verb.Arrow (words text.now) }
-{
-    let (side, from, command, to) = side_and_arrow(text)?;
-    Some(Statement::Arrow {
-        side,
-        from,
-        command,
-        to,
-    })
-}
-
-/// `lift SIDE STATE COMMAND STATE`
-fn lift(text: &[u8]) -> Option<Statement<'_>>
-    ensures { option_map said result ≡ behind Verb.Lift (words text.now) }
-{
-    let (side, from, command, to) = side_and_arrow(text)?;
-    Some(Statement::Lift {
-        side,
-        from,
-        command,
-        to,
-    })
-}
-
-/// `write SIDE [BUFFERBYTES]`
-fn write(text: &[u8]) -> Option<Statement<'_>>
-    ensures { option_map said result ≡ behind Verb.Write (words text.now) }
-{
-    let (side, buffer) = side_and_buffer(text)?;
-    Some(Statement::Write { side, buffer })
-}
-
-/// What to show: the plan of a name, or a side.
-fn shown(word: &[u8]) -> Option<Statement<'_>>
-    ensures { option_map said result ≡ shown_of word.now }
-{
-    if is_name(word) {
-        return Some(Statement::ShowPlan { name: word });
-    }
-    Some(Statement::ShowSide { side: byte(word)? })
+    first_word(line).is_none_or(|(word, _)| word.starts_with(b"#"))
 }
 
 /// `show NAME` or `show SIDE`
-fn show(text: &[u8]) -> Option<Statement<'_>>
-    ensures { option_map said result ≡ behind Verb.Show (words text.now) }
+fn show(words: Words<'_>) -> Option<Statement<'_>>
+    ensures { option_map said result ≡ behind Verb.Show (words_left words.entry) }
 {
-    let (word, rest) = first_word(text)?;
-    let statement = shown(word)?;
-    if is_end(rest) { Some(statement) } else { None }
-}
-
-/// `pairs P<R P<R ..`
-fn pairs(text: &[u8]) -> Option<Statement<'_>>
-    ensures { option_map said result ≡ behind Verb.Pairs (words text.now) }
-{
-    if are_pairs(text) {
-        Some(Statement::Pairs { text })
-    } else {
-        None
-    }
-}
-
-/// `deliver HEX`
-fn deliver(text: &[u8]) -> Option<Statement<'_>>
-    ensures { option_map said result ≡ behind Verb.Deliver (words text.now) }
-{
-    let hex = hex_alone(text)?;
-    Some(Statement::Deliver { hex })
-}
-
-/// `rank`
-fn rank(text: &[u8]) -> Option<Statement<'_>>
-    ensures { option_map said result ≡ behind Verb.Rank (words text.now) }
-{
-    if is_end(text) {
-        Some(Statement::Rank)
-    } else {
-        None
-    }
-}
-
-/// `rank-plans NAME NAME`
-fn rank_plans(text: &[u8]) -> Option<Statement<'_>>
-    ensures { option_map said result ≡ behind Verb.RankPlans (words text.now) }
-{
-    let (programme, rule) = two_names(text)?;
-    Some(Statement::RankPlans { programme, rule })
-}
-
-/// `test ORDER`
-fn test(text: &[u8]) -> Option<Statement<'_>>
-    ensures { option_map said result ≡ behind Verb.Test (words text.now) }
-{
-    let order = order_alone(text)?;
-    Some(Statement::Test { order })
+    plan_or_side(words).map(|subject| match subject {
+        PlanOrSide::Plan(name) => Statement::ShowPlan { name },
+        PlanOrSide::Side(side) => Statement::ShowSide { side },
+    })
 }
 
 /// `test-plans NAME NAME ORDER`
-fn test_plans(text: &[u8]) -> Option<Statement<'_>>
-    ensures { option_map said result ≡ behind Verb.TestPlans (words text.now) }
+fn test_plans(mut words: Words<'_>) -> Option<Statement<'_>>
+    ensures { option_map said result ≡ behind Verb.TestPlans (words_left words.entry) }
 {
-    let (programme, rule, order) = two_names_and_order(text)?;
-    Some(Statement::TestPlans {
+    let programme = name(words.next()?)?;
+    let rule = name(words.next()?)?;
+    let order = order_name(words.next()?)?;
+    let statement = Statement::TestPlans {
         programme,
         rule,
         order,
-    })
+    };
+    last(statement, words)
 }
 
 /// The statement that the line is, or nothing where it is malformed.
@@ -259,21 +130,38 @@ pub fn parse(line: &[u8]) -> Option<Statement<'_>>
     ensures { option_map said result ≡ statement (words line.now) }
 {
     let (word, rest) = first_word(line)?;
+    let words = Words::new(rest);
     match read_verb(word)? {
-        Verb::Plan => plan(rest),
-        Verb::Rewrite => rewrite(rest),
-        Verb::State => state(rest),
-        Verb::Start => start(rest),
-        Verb::End => end(rest),
-        Verb::Arrow => arrow(rest),
-        Verb::Lift => lift(rest),
-        Verb::Write => write(rest),
-        Verb::Show => show(rest),
-        Verb::Pairs => pairs(rest),
-        Verb::Deliver => deliver(rest),
-        Verb::Rank => rank(rest),
-        Verb::RankPlans => rank_plans(rest),
-        Verb::Test => test(rest),
-        Verb::TestPlans => test_plans(rest),
+        Verb::Plan => name_and_hex(words).map(|(name, hex)| Statement::Plan { name, hex }),
+        Verb::Rewrite => name_alone(words).map(|name| Statement::Rewrite { name }),
+        Verb::State => side_alone(words).map(|side| Statement::State { side }),
+        Verb::Start => side_and_state(words).map(|(side, state)| Statement::Start { side, state }),
+        Verb::End => side_and_state(words).map(|(side, state)| Statement::End { side, state }),
+        Verb::Arrow => side_and_arrow(words).map(|(side, from, command, to)| Statement::Arrow {
+            side,
+            from,
+            command,
+            to,
+        }),
+        Verb::Lift => side_and_arrow(words).map(|(side, from, command, to)| Statement::Lift {
+            side,
+            from,
+            command,
+            to,
+        }),
+        Verb::Write => side_and_buffer(words).map(|(side, buffer)| Statement::Write {
+            side,
+            buffer,
+        }),
+        Verb::Show => show(words),
+        Verb::Pairs => are_pairs(rest).then_some(Statement::Pairs { text: rest }),
+        Verb::Deliver => hex_alone(words).map(|hex| Statement::Deliver { hex }),
+        Verb::Rank => last(Statement::Rank, words),
+        Verb::RankPlans => two_names(words).map(|(programme, rule)| Statement::RankPlans {
+            programme,
+            rule,
+        }),
+        Verb::Test => order_alone(words).map(|order| Statement::Test { order }),
+        Verb::TestPlans => test_plans(words),
     }
 }

@@ -6,7 +6,6 @@ use Rattle.walk.specs.Lists.{All, Any}
 use Rattle.walk.specs.Fans.{select, fan}
 use Rattle.walk.proofs.Lists.{all_append, any_left, any_right, any_append, all_list, any_list, any_unlist}
 use Rattle.automata.specs.Sets.{has}
-use Rattle.search.specs.Pairs.{pair, at}
 
 all_select : (Q : ℕ → Type 0) (f : ℕ → Bool) (n : ℕ) → ((s : ℕ) → f s ≡ true → Q s) → All Q (select f n)
 unfolding select
@@ -51,10 +50,6 @@ module _ {I : Type 0} (Q : I → Type 0) (with : I → ℕ → I) (heads : ℕ) 
 
   pub find_fan : Any Q (fan with heads base) → (s : ℕ) × (has heads s ≡ true) × Q (with base s)
   find_fan h = find_select (λ s. Q (with base s)) (has heads) 32 (any_unlist {Q = λ s. Q (with base s)} Q (with base) (λ s q. q) (select (has heads) 32) h)
-
--- the fan of a set of states and a set of rule states that the code found
-pub pair_fan : (h h' x x' : ℕ) → h' ≡ h → x' ≡ x → fan at h (pair 0 x) ≡ fan at h' (pair 0 x')
-pair_fan h h' x x' p q = sym (λ i. fan at (p i) (pair 0 (q i)))
 
 -- the fan of one head that is put nowhere is one item
 pub one_fan : {I : Type 0} (x x' : I) → x' ≡ x → ◌≡◌ {A = List I} (x ∷ []) (fan (λ (i : I) (h : ℕ). i) 1 x')

@@ -1,14 +1,17 @@
 -- Being below states of a set, as a test of bits of a row; and the loops that go through the states of a set.
-use Rattle.std.proofs.Common.{◌≡◌, ℕ, ◌+◌, ◌/◌, ◌%◌, ◌^◌, ◌<◌, ◌≤◌, Bool, true, false, cond, not, ◌&&◌, eqb, ltb, List, get_or, sym, refl, ap, ◌∙◌, add-one, arith, shr-shr}
+use Rattle.std.proofs.Common.{◌≡◌, ℕ, ◌+◌, ◌/◌, ◌%◌, ◌^◌, ◌<◌, ◌≤◌, Bool, true, false, cond, not, ◌&&◌, eqb, ltb, List, [], ◌∷◌, ◌++◌, zero, suc, get_or, sym, refl, ap, ap₂, ◌∙◌, add-one, add-zero, zero-add, arith, shr-shr}
 use lib.Bits.{bit_and, and_le_r}
-use Rattle.std.proofs.lemmas.Bool.{and_parts, and_from, both_ways, not-true, not_from_false, eqb-false, ne_eqb, lt-ltb, ltb-true, cond-true, cond-false}
+use Rattle.std.proofs.lemmas.Bool.{and_parts, and_from, not-true, not_from_false, eqb-false, ne_eqb, lt-ltb, ltb-true, cond-true, cond-false}
+use Rattle.std.specs.List.{list_all, range_with_len}
+use Rattle.std.proofs.Math.Bool.{and-true}
+use Rattle.std.proofs.lemmas.List.Folds.{list_all-append}
 use Rattle.automata.specs.Sets.{has, without}
 use Rattle.automata.specs.Relations.{bits}
 use Rattle.automata.specs.Reducing.{every, under, spare, relieve, reduce_first}
 use Rattle.automata.proofs.Bits.{has_and, has_small}
 use Rattle.automata.proofs.Elements.{same_bool, else_false}
 use Rattle.automata.proofs.Steps.{some_member, no_member}
-use Rattle.automata.proofs.Reduced.{every_at, under_find, under_from}
+use Rattle.automata.proofs.Reduced.{under_find, under_from}
 use Rattle.order.specs.Orders.{rowed}
 
 -- the upper half of a row
@@ -42,18 +45,22 @@ under_past rows set k l = else_false (under (rowed rows) set k) (λ e.
     let p = and_parts (ltb k 64 && ltb (32 + f.0) 64) (bits rows k (32 + f.0)) f.3 in
     omega (arith, ltb-true k 64 (and_parts (ltb k 64) (ltb (32 + f.0) 64) p.0).0))
 
+-- the test of every number below n, as the test of a list of them
+range_push : (a n : ℕ) → range_with_len a (suc n) ≡ range_with_len a n ++ (a + n) ∷ []
+range_push a zero = rw add-zero refl
+range_push a (suc n) =
+    let e : a + 1 + n ≡ a + suc n = omega arith in
+    ap {B = List ℕ} (λ l. a ∷ l) (range_push (a + 1) n ∙ ap (λ (k : ℕ). range_with_len (a + 1) n ++ k ∷ []) e)
+
+last_passes : (f : ℕ → Bool) (n : ℕ) → list_all f ((0 + n) ∷ []) ≡ f n
+last_passes f n = rw (zero-add, and-true) refl
+
+pub every_is : (f : ℕ → Bool) (n : ℕ) → list_all f (range_with_len 0 n) ≡ every n f
+unfolding every
+every_is f zero = refl
+every_is f (suc n) = ap (list_all f) (range_push 0 n) ∙ list_all-append f (range_with_len 0 n) ((0 + n) ∷ []) ∙ ap₂ {C = Bool} (λ a b. a && b) (every_is f n) (last_passes f n)
+
 -- one number further
-pub every_none : (f : ℕ → Bool) → every 0 f ≡ true
-unfolding every
-every_none f = refl
-
-pub every_next : (f : ℕ → Bool) (n : ℕ) → every n f ≡ true → f n ≡ true → every (n + 1) f ≡ true
-unfolding every
-every_next f n a b = rw (add-one n) (and_from (every n f) (f n) a b)
-
-pub every_not : (f : ℕ → Bool) (n s : ℕ) → s < n → f s ≡ false → every n f ≡ false
-every_not f n s l e = else_false (every n f) (λ h. both_ways (f s) e (every_at n f s h l))
-
 pub reduce_none_yet : (o : ℕ → ℕ → Bool) (P : ℕ) → reduce_first o P 0 ≡ P
 unfolding reduce_first
 reduce_none_yet o P = refl
@@ -67,10 +74,3 @@ pub reduce_keeps : (o : ℕ → ℕ → Bool) (P n x : ℕ) → x ≡ reduce_fir
 unfolding reduce_first relieve
 reduce_keeps o P n x e h =
     sym (cond-false (spare o x n) (without x n) x h) ∙ ap (λ (y : ℕ). cond (spare o y n) (without y n) y) e ∙ ap (reduce_first o P) (sym (add-one n))
-
--- a test that the code makes in two steps
-pub both_then : (a b r : Bool) → a ≡ true → r ≡ b → r ≡ (a && b)
-both_then a b r p q = rw p q
-
-pub both_else : (a b : Bool) → a ≡ false → false ≡ (a && b)
-both_else a b p = rw p refl

@@ -5,11 +5,11 @@
 //! `specs/Findings.antt` and `specs/Searching.antt`.
 #![tactic(auto)]
 
+mod admission;
 pub mod cases;
 pub mod compare;
 pub mod open;
 pub mod pair;
 mod pairs;
 mod reducing;
-mod room;
 mod state_sets;

@@ -1,5 +1,5 @@
 /// The item of a comparison: a state of the programme, and a set of states of the rule.
-#[derive(Clone, Copy, Drop)]
+#[derive(Clone, Copy, Debug, Default, PartialEq, Eq, Drop)]
 pub struct Pair {
     /// The programme's state.
     pub state: u8,

@@ -1,3 +1,5 @@
+#![tactic(auto, unfolding(crate::specs::Pairs::pairs))]
+
 ghost use Rattle.std.specs.Prelude.{◌≡◌, ◌&&◌, eqb};
 ghost use Rattle.std.specs.Int.Bits.{bit_and};
 ghost use Rattle.automata.specs.Sets.{has};
@@ -50,16 +52,12 @@ impl<'a, P: Plan, R: Plan> Search for Pairs<'a, P, R> {
     fn put(&self, base: Pair, head: u8) -> Pair {
         Pair {
             state: head,
-            states: base.states,
+            ..base
         }
     }
 
     fn hit(&self, item: Pair) -> bool {
-        if sets::contains(self.programme.ends(), item.state) {
-            item.states & self.rule.ends() == 0
-        } else {
-            false
-        }
+        sets::contains(self.programme.ends(), item.state) && item.states & self.rule.ends() == 0
     }
 
     fn hopeless(&self, item: Pair) -> bool {
@@ -67,10 +65,7 @@ impl<'a, P: Plan, R: Plan> Search for Pairs<'a, P, R> {
     }
 
     fn covers(&self, item: Pair, other: Pair) -> bool {
-        if self.rows.is_below(other.state, item.state) {
-            are_under(&self.rows, item.states, other.states)
-        } else {
-            false
-        }
+        self.rows.is_below(other.state, item.state)
+            && are_under(&self.rows, item.states, other.states)
     }
 }

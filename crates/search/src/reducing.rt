@@ -5,15 +5,12 @@ ghost use Rattle.order.specs.Orders.{rowed};
 
 use automata::sets;
 
+// Stays: the rows are the search's and a set an item's; a struct of both would be made for each question.
 /// Whether number `k` is below some state of the set of rule states.
 pub(crate) fn is_under(rows: &[u64; 64], set: u32, k: u8) -> bool
     ensures { result ≡ under (rowed rows.now) set k }
 {
-    if k < 64 {
-        (rows[k as usize] >> 32) & set as u64 != 0
-    } else {
-        false
-    }
+    k < 64 && (rows[k as usize] >> 32) & u64::from(set) != 0
 }
 
 /// Whether rule state `s` is not in the first set, or below some state of the second.
@@ -21,35 +18,23 @@ fn is_met(rows: &[u64; 64], set: u32, other: u32, s: u8) -> bool
     requires { s < 32 }
     ensures { result ≡ (not (has set s) || under (rowed rows.now) other (32 + s)) }
 {
-    if sets::contains(set, s) {
-        is_under(rows, other, 32 + s)
-    } else {
-        true
-    }
+    !sets::contains(set, s) || is_under(rows, other, 32 + s)
 }
 
 /// Whether each state of the first set is below some state of the second.
 pub(crate) fn are_under(rows: &[u64; 64], set: u32, other: u32) -> bool
     ensures { result ≡ all_under (rowed rows.now) set other }
 {
-    for s in 0..32u8 {
-        if !is_met(rows, set, other, s) {
-            return false;
-        }
-    }
-    true
+    (0..32).all(|s| is_met(rows, set, other, s))
 }
 
 /// Whether rule state `s` is in the set, and below another state of it.
+#[tactic(auto, unfolding(automata::specs::Reducing::spare))]
 fn is_spare(rows: &[u64; 64], set: u32, s: u8) -> bool
     requires { s < 32 }
     ensures { result ≡ spare (rowed rows.now) set s }
 {
-    if sets::contains(set, s) {
-        is_under(rows, sets::without(set, s), 32 + s)
-    } else {
-        false
-    }
+    sets::contains(set, s) && is_under(rows, sets::without(set, s), 32 + s)
 }
 
 /// The reduced set: its states are gone through in ascending order, and each is dropped that is below another state

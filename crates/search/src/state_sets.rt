@@ -1,3 +1,5 @@
+#![tactic(auto, using(crate::proofs::Fanned::one_fan), unfolding(crate::specs::StateSets::sets, walk::specs::Fans::select))]
+
 ghost use Rattle.std.specs.Prelude.{◌≡◌, eqb};
 ghost use Rattle.std.specs.Int.Bits.{bit_and};
 ghost use Rattle.order.specs.Orders.{rowed};

@@ -1,12 +1,16 @@
-use crate::answer::Answer;
-use crate::question::{Mix, Plans, Question, compare_plans, open_rule};
+use crate::answer::{Answer, Outcome};
+use crate::both::Both;
+use crate::question::{Form, Question, Written};
+use crate::tally::Fault;
 use order::interface::Order;
+use search::compare::compare;
+use search::open::open;
 use search::pair::Pair;
 use std::alloc::{AllocError, Global};
-use walk::slot::{Mark, Slot};
+use walk::slot::Slot;
 
-/// What the run buffer is filled with before a call: no command.
-const FILL: u8 = 0xee;
+/// What a buffer is filled with before a call, the run's and a file's: no command.
+pub(crate) const FILL: u8 = 0xee;
 
 /// The depth of a slot that no call has filled.
 const UNUSED: u16 = 0x7777;
@@ -14,120 +18,113 @@ const UNUSED: u16 = 0x7777;
 /// How many slots at the front are cleared before a call and looked at after it.
 const WATCHED: usize = 64;
 
-/// The slots and the run buffer that calls work with.
-#[derive(Drop)]
-pub(crate) struct Bench {
-    pairs: Vec<Slot<Pair>>,
-    sets: Vec<Slot<u32>>,
-    run: Vec<u8>,
-}
-
-/// A call: the question, how many slots and bytes it is handed, and which of the plans are drawn or read.
+/// A call: the question, how many slots and bytes it is handed, and in which forms the plans are.
 #[derive(Clone, Copy)]
 pub(crate) struct Call {
     pub question: Question,
     pub slots: usize,
     pub bytes: usize,
-    pub mix: Mix,
+    pub forms: Both<Form>,
 }
 
-/// A slot that no call has filled.
-fn unused<I>(item: I) -> Slot<I> {
-    Slot {
-        item,
-        depth: UNUSED,
-        parent: 0,
-        command: 0,
-        mark: Mark::Waiting,
+/// The slots of one kind that calls work with.
+#[derive(Drop)]
+struct Store<I> {
+    slots: Vec<Slot<I>>,
+}
+
+impl<I: Copy + Drop> Store<I> {
+    /// So many slots, each of which would hold the item.
+    fn new(heap: Global, count: usize, item: I) -> Result<Store<I>, AllocError> {
+        let unused = Slot {
+            depth: UNUSED,
+            ..Slot::blank(item)
+        };
+        Ok(Store {
+            slots: vec![in heap; unused; count]?,
+        })
     }
-}
 
-/// Clears the watched slots.
-fn clear_slots<I: Copy + Drop>(slots: &mut [Slot<I>]) {
-    for slot in slots.iter_mut().take(WATCHED) {
-        slot.depth = UNUSED;
-    }
-}
-
-/// Whether the watched slots behind the first ones are as they were.
-fn are_unused<I: Copy + Drop>(slots: &[Slot<I>], filled: usize) -> bool {
-    for slot in slots.iter().take(WATCHED).skip(filled) {
-        if slot.depth != UNUSED {
-            return false;
+    /// The first slots, with the watched ones cleared.
+    fn hand_out(&mut self, count: usize) -> &mut [Slot<I>] {
+        let end = count.min(self.slots.len());
+        let slots = &mut self.slots.as_mut_slice()[..end];
+        for slot in slots.iter_mut().take(WATCHED) {
+            slot.depth = UNUSED;
         }
+        slots
     }
-    true
+
+    /// Whether the watched ones of the first slots are as they were handed out, but for those that were filled.
+    fn is_kept(&self, count: usize, filled: usize) -> bool {
+        self.slots
+            .iter()
+            .take(count.min(WATCHED))
+            .skip(filled)
+            .all(|slot| slot.depth == UNUSED)
+    }
 }
 
-/// Fills the run buffer.
-fn clear_run(run: &mut [u8]) {
-    for byte in run.iter_mut() {
-        *byte = FILL;
-    }
+/// The slots and the run buffer that calls work with.
+#[derive(Drop)]
+pub(crate) struct Bench {
+    pairs: Store<Pair>,
+    sets: Store<u32>,
+    run: Vec<u8>,
 }
 
 impl Bench {
     /// So many slots of each kind, and as many bytes.
     pub(crate) fn new(heap: Global, slots: usize) -> Result<Bench, AllocError> {
-        let pair = Pair {
-            state: 0,
-            states: 0,
-        };
         Ok(Bench {
-            pairs: vec![in heap; unused(pair); slots]?,
-            sets: vec![in heap; unused(0u32); slots]?,
+            pairs: Store::new(heap, slots, Pair::default())?,
+            sets: Store::new(heap, slots, 0)?,
             run: vec![in heap; FILL; slots]?,
         })
     }
 
     /// Asks a question with so many of the slots and bytes.
-    pub(crate) fn ask<O: Order>(&mut self, plans: &Plans, order: &O, call: Call) -> Answer {
-        let bytes = call.bytes.min(self.run.len());
-        let run = &mut self.run.as_mut_slice()[0..bytes];
-        clear_run(run);
-        match call.question {
+    pub(crate) fn ask<O: Order>(&mut self, plans: &Both<Written>, order: &O, call: Call) -> Answer {
+        let end = call.bytes.min(self.run.len());
+        let run = &mut self.run.as_mut_slice()[..end];
+        run.fill(FILL);
+        let rule = plans.rule.plan(call.forms.rule)?;
+        let found = match call.question {
             Question::Compare => {
-                let count = call.slots.min(self.pairs.len());
-                let slots = &mut self.pairs.as_mut_slice()[0..count];
-                clear_slots(slots);
-                Answer::new(compare_plans(plans, call.mix, order, slots, run))
+                let programme = plans.programme.plan(call.forms.programme)?;
+                compare(
+                    &programme,
+                    &rule,
+                    order,
+                    self.pairs.hand_out(call.slots),
+                    run,
+                )?
             }
             Question::Open { commands } => {
-                let count = call.slots.min(self.sets.len());
-                let slots = &mut self.sets.as_mut_slice()[0..count];
-                clear_slots(slots);
-                Answer::new(open_rule(plans, call.mix, order, commands, slots, run))
+                open(&rule, commands, order, self.sets.hand_out(call.slots), run)?
             }
-        }
+        };
+        Ok(Outcome::from(found))
     }
 
-    /// The first bytes of the run buffer, as the last call left them.
-    pub(crate) fn run(&self, length: usize) -> &[u8] {
+    /// The run that the last call left in the buffer.
+    pub(crate) fn run(&self, answer: Answer) -> &[u8] {
+        let length = answer.map_or(0, |outcome| outcome.length);
         let end = length.min(self.run.len());
-        &self.run.as_slice()[0..end]
+        &self.run.as_slice()[..end]
     }
 
-    /// Whether the last call left all bytes behind the run as they were.
-    pub(crate) fn kept_bytes(&self, call: Call, length: usize) -> bool {
-        for byte in self.run.iter().take(call.bytes).skip(length) {
-            if *byte != FILL {
-                return false;
-            }
+    /// Whether the last call left all bytes behind the run, and the watched slots behind the stored ones, as they were.
+    pub(crate) fn check_kept(&self, call: Call, answer: Answer) -> Result<(), Fault> {
+        let (length, stored) = answer.map_or((0, 0), |outcome| (outcome.length, outcome.stored));
+        let mut behind = self.run.iter().take(call.bytes).skip(length);
+        if !behind.all(|byte| *byte == FILL) {
+            return Err(Fault::Bytes);
         }
-        true
-    }
-
-    /// Whether the last call left the watched slots behind the stored ones as they were.
-    pub(crate) fn kept_slots(&self, call: Call, stored: usize) -> bool {
-        match call.question {
-            Question::Compare => {
-                let count = call.slots.min(self.pairs.len());
-                are_unused(&self.pairs.as_slice()[0..count], stored)
-            }
-            Question::Open { .. } => {
-                let count = call.slots.min(self.sets.len());
-                are_unused(&self.sets.as_slice()[0..count], stored)
-            }
-        }
+        let is_kept = match call.question {
+            Question::Compare => self.pairs.is_kept(call.slots, stored),
+            Question::Open { .. } => self.sets.is_kept(call.slots, stored),
+        };
+        if is_kept { Ok(()) } else { Err(Fault::Slots) }
     }
 }

@@ -3,10 +3,10 @@
 #![tactic(auto)]
 
 mod answer;
+mod both;
 mod buffers;
 mod drawing;
 mod file;
-mod offence;
 mod orders;
 mod product;
 mod question;
@@ -14,12 +14,13 @@ mod random;
 mod relation;
 mod round;
 mod session;
+mod sides;
 mod sketch;
 mod subject;
 mod tally;
 mod trial;
 
-use anyhow::anyhow;
+use anyhow::ensure;
 use buffers::Bench;
 use file::is_known_file;
 use round::play;
@@ -34,7 +35,7 @@ fn main(rt: HostRuntime) -> anyhow::Result<()> {
 }
 
 /// Prints the differences that were noted, and answers how many there are.
-fn print_differences(rt: &HostRuntime, tally: &mut Tally) -> anyhow::Result<usize> {
+fn print_differences(rt: &impl Print, tally: &mut Tally) -> anyhow::Result<usize> {
     for difference in tally.differences.iter() {
         println!(rt; "{difference}")?;
     }
@@ -43,24 +44,8 @@ fn print_differences(rt: &HostRuntime, tally: &mut Tally) -> anyhow::Result<usiz
     Ok(count)
 }
 
-/// Prints the counts.
-fn print_counts(rt: &HostRuntime, tally: &Tally) -> anyhow::Result<()> {
-    let plans = tally.plans;
-    let comparisons = tally.comparisons;
-    let openings = tally.openings;
-    let lawful = tally.lawful;
-    let broken = tally.broken;
-    let longest = tally.longest;
-    println!(rt; "plans: {plans}, each drawn and read from its file")?;
-    println!(rt; "comparisons: {comparisons}")?;
-    println!(rt; "openings: {openings}")?;
-    println!(rt; "delivered orders: {lawful} lawful, {broken}")?;
-    println!(rt; "longest run: {longest}")?;
-    Ok(())
-}
-
 /// Holds all trials, prints what was counted, and ends with an error where something differs.
-fn run(rt: &HostRuntime) -> anyhow::Result<()> {
+fn run(rt: &(impl Print + AllocGlobal)) -> anyhow::Result<()> {
     let heap = rt.alloc();
     let mut session = Session {
         heap,
@@ -75,11 +60,10 @@ fn run(rt: &HostRuntime) -> anyhow::Result<()> {
         play(seed, &mut session)?;
         differences = differences.wrapping_add(print_differences(rt, &mut session.tally)?);
     }
-    print_counts(rt, &session.tally)?;
-    let trials = session.tally.trials;
+    let tally = session.tally;
+    let trials = tally.trials;
+    println!(rt; "{tally}")?;
     println!(rt; "{trials} trials, {differences} differences")?;
-    if differences > 0 {
-        return Err(anyhow!("some answers are not the checker's"));
-    }
+    ensure!(differences == 0, "some answers are not the checker's");
     Ok(())
 }

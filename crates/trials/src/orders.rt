@@ -1,14 +1,26 @@
-use crate::offence::{Offence, Sides};
-use crate::random::Random;
+use crate::drawing::Draughtsman;
 use crate::relation::Relation;
+use crate::sides::Sides;
+use plan::refusal::Refusal;
+use std::alloc::AllocError;
 
-/// Mends one offence: adds the pair of a state with itself, or takes a pair out.
-fn mend(order: &mut Relation, offence: Offence) {
+/// The orders, besides the order same, that questions are asked under: the greatest one, and the bytes of a delivered one
+/// that was mended and of one that was not.
+#[derive(Drop)]
+pub(crate) struct Orders {
+    pub greatest: [u64; 64],
+    pub mended: Vec<u8>,
+    pub drawn: Vec<u8>,
+}
+
+/// Mends a law that is broken: adds the pair of a state with itself, or takes a pair out.
+fn mend(order: &mut Relation, offence: Refusal) {
     match offence {
-        Offence::NotReflexive { p } => order.add(p, p),
-        Offence::NotTransitive { p, q, .. } => order.remove(p, q),
-        Offence::EndNotKept { p, r } => order.remove(p, r),
-        Offence::ArrowNotMatched { p, r, .. } => order.remove(p, r),
+        Refusal::NotReflexive { p } => order.add(p, p),
+        Refusal::NotTransitive { p, q, .. } => order.remove(p, q),
+        Refusal::EndNotKept { p, r } => order.remove(p, r),
+        Refusal::ArrowNotMatched { p, r, .. } => order.remove(p, r),
+        _ => {}
     }
 }
 
@@ -16,7 +28,7 @@ fn mend(order: &mut Relation, offence: Offence) {
 fn mended(sides: &Sides<'_>, order: Relation) -> Relation {
     let mut left = order;
     for _ in 0..5000u16 {
-        let Some(offence) = sides.first_offence(&left) else {
+        let Err(offence) = sides.under(left).check() else {
             break;
         };
         mend(&mut left, offence);
@@ -24,62 +36,65 @@ fn mended(sides: &Sides<'_>, order: Relation) -> Relation {
     left
 }
 
-/// The relation without some of its pairs, each left out with so many chances out of a hundred.
-fn thinned(random: &mut Random, order: Relation, percent: u8) -> Relation {
-    let mut left = order;
-    for p in 0..64u8 {
-        for r in 0..64u8 {
-            if order.has(p, r) && random.chance(percent) {
-                left.remove(p, r);
-            }
+impl Draughtsman {
+    /// The relation without some of its pairs, each left out with so many chances out of a hundred.
+    fn thinned(&mut self, order: Relation, percent: u8) -> Relation {
+        let random = &mut self.random;
+        Relation::from_fn(|p, r| order.has(p, r) && !random.chance(percent))
+    }
+
+    /// The number of some state of either side, now and then one behind the last state.
+    fn some_number(&mut self, sides: &Sides<'_>) -> u8 {
+        if self.random.chance(50) {
+            self.random.below(sides.programme.count.saturating_add(1))
+        } else {
+            self.random
+                .below(sides.rule.count.saturating_add(1))
+                .saturating_add(32)
         }
     }
-    left
-}
 
-/// The number of some state of either side, now and then one behind the last state.
-fn some_number(random: &mut Random, sides: &Sides<'_>) -> u8 {
-    if random.chance(50) {
-        random.below(sides.programme.count.saturating_add(1))
-    } else {
-        random
-            .below(sides.rule.count.saturating_add(1))
-            .saturating_add(32)
+    /// The relation with so many pairs more, most of them of states.
+    fn thickened(&mut self, sides: &Sides<'_>, order: Relation, pairs: u8) -> Relation {
+        let mut more = order;
+        for _ in 0..pairs {
+            let p = self.some_number(sides);
+            let r = self.some_number(sides);
+            more.add(p, r);
+        }
+        more
     }
-}
 
-/// The relation with so many pairs more, most of them of states.
-fn thickened(random: &mut Random, sides: &Sides<'_>, order: Relation, pairs: u8) -> Relation {
-    let mut more = order;
-    for _ in 0..pairs {
-        let p = some_number(random, sides);
-        let r = some_number(random, sides);
-        more.add(p, r);
+    /// An order that keeps the four laws: the greatest order, thinned out, with a few pairs more, and mended.
+    fn lawful_order(&mut self, sides: &Sides<'_>, greatest: Relation) -> Relation {
+        let fewer = self.thinned(greatest, 30);
+        let more = self.thickened(sides, fewer, 4);
+        mended(sides, more)
     }
-    more
-}
 
-/// An order that keeps the four laws: the greatest order, thinned out, with a few pairs more, and mended.
-pub(crate) fn lawful_order(random: &mut Random, sides: &Sides<'_>, greatest: Relation) -> Relation {
-    let fewer = thinned(random, greatest, 30);
-    let more = thickened(random, sides, fewer, 4);
-    mended(sides, more)
-}
+    /// An order that may break any law: a lawful order with pairs more or fewer.
+    fn any_order(&mut self, sides: &Sides<'_>, lawful: Relation) -> Relation {
+        match self.random.below(5) {
+            0 => self.thinned(lawful, 10),
+            1 => self.thickened(sides, lawful, 3),
+            2 => self.thickened(sides, lawful, 20),
+            3 => self.thickened(sides, lawful, 3).closed(),
+            _ => self.thickened(sides, lawful, 1).closed(),
+        }
+    }
 
-/// The relation with the pairs that transitivity calls for.
-fn closed(order: Relation) -> Relation {
-    let mut more = order;
-    more.close();
-    more
-}
-
-/// An order that may break any law: a lawful order with pairs more or fewer.
-pub(crate) fn any_order(random: &mut Random, sides: &Sides<'_>, lawful: Relation) -> Relation {
-    match random.below(5) {
-        0 => thinned(random, lawful, 10),
-        1 => thickened(random, sides, lawful, 3),
-        2 => thickened(random, sides, lawful, 20),
-        3 => closed(thickened(random, sides, lawful, 3)),
-        _ => closed(thickened(random, sides, lawful, 1)),
+    /// The orders that questions about two plans are asked under.
+    pub(crate) fn orders(
+        &mut self,
+        sides: &Sides<'_>,
+        greatest: [u64; 64],
+    ) -> Result<Orders, AllocError> {
+        let lawful = self.lawful_order(sides, Relation::of(&greatest));
+        let any = self.any_order(sides, lawful);
+        Ok(Orders {
+            greatest,
+            mended: lawful.bytes(self.heap)?,
+            drawn: any.bytes(self.heap)?,
+        })
     }
 }

@@ -1,70 +1,62 @@
 use crate::sketch::{Sketch, has};
 use std::alloc::{AllocError, Global};
+use std::collections::BTreeSet;
 
-/// A state of the product: a programme state and the exact set of rule states that one run leads to, with the length
-/// of the run.
-#[derive(Clone, Copy)]
+/// A state of the product: a programme state and the exact set of rule states that one run leads to.
+#[derive(Clone, Copy, PartialEq, Eq, PartialOrd, Ord)]
 struct Node {
     state: u8,
     states: u32,
-    length: usize,
 }
 
-/// Whether the two are among the nodes.
-fn is_reached(nodes: &[Node], state: u8, states: u32) -> bool {
-    for node in nodes {
-        if node.state == state && node.states == states {
-            return true;
+/// The product of a programme and the complete determinisation of a rule, with the nodes that are reached so far.
+#[derive(Drop)]
+struct Product<'a> {
+    programme: &'a Sketch,
+    rule: &'a Sketch,
+    reached: BTreeSet<Node>,
+}
+
+impl<'a> Product<'a> {
+    /// Adds a node to the level, unless it was reached before.
+    fn reach(&mut self, node: Node, level: &mut Vec<Node>) -> Result<(), AllocError> {
+        if self.reached.insert(node)? {
+            level.push(node)?;
         }
+        Ok(())
     }
-    false
-}
 
-/// Adds a node, unless its state and set are there.
-fn reach(nodes: &mut Vec<Node>, node: Node) -> Result<(), AllocError> {
-    if !is_reached(nodes.as_slice(), node.state, node.states) {
-        nodes.push(node)?;
-    }
-    Ok(())
-}
-
-/// The nodes of the empty run.
-fn roots(heap: Global, programme: &Sketch, rule: &Sketch) -> Result<Vec<Node>, AllocError> {
-    let mut nodes = Vec::new(heap);
-    for state in 0..programme.count {
-        if has(programme.starts, state) {
-            nodes.push(Node {
-                state,
-                states: rule.starts,
-                length: 0,
-            })?;
+    /// The nodes of the empty run.
+    fn roots(&mut self, heap: Global) -> Result<Vec<Node>, AllocError> {
+        let mut level = Vec::new(heap);
+        for state in 0..self.programme.count {
+            if has(self.programme.starts, state) {
+                let states = self.rule.starts;
+                self.reach(Node { state, states }, &mut level)?;
+            }
         }
+        Ok(level)
     }
-    Ok(nodes)
-}
 
-/// Adds the nodes to which one command leads from a node.
-fn expand(
-    programme: &Sketch,
-    rule: &Sketch,
-    node: Node,
-    nodes: &mut Vec<Node>,
-) -> Result<(), AllocError> {
-    for arrow in programme.arrows.iter() {
-        if arrow.from == node.state {
-            let states = rule.onward(node.states, arrow.command);
-            let length = node.length.saturating_add(1);
-            reach(
-                nodes,
-                Node {
-                    state: arrow.to,
-                    states,
-                    length,
-                },
-            )?;
+    /// The nodes to which one command leads from those of a level, and no fewer commands do.
+    fn next_level(&mut self, heap: Global, level: &[Node]) -> Result<Vec<Node>, AllocError> {
+        let mut next = Vec::new(heap);
+        for node in level {
+            for arrow in self.programme.arrows.iter() {
+                if arrow.from == node.state {
+                    let states = self.rule.onward(node.states, arrow.command);
+                    let state = arrow.to;
+                    self.reach(Node { state, states }, &mut next)?;
+                }
+            }
         }
+        Ok(next)
     }
-    Ok(())
+
+    /// Whether the runs that lead to the node are permitted by the programme and not by the rule.
+    fn is_missed(&self, node: Node) -> bool {
+        has(self.programme.ends, node.state) && node.states & self.rule.ends == 0
+    }
 }
 
 /// The length of a shortest run that the programme permits and the rule does not, or none where there is no such run.
@@ -76,15 +68,20 @@ pub(crate) fn shortest_missed(
     programme: &Sketch,
     rule: &Sketch,
 ) -> Result<Option<usize>, AllocError> {
-    let mut nodes = roots(heap, programme, rule)?;
-    for at in 0..usize::MAX {
-        let Some(node) = nodes.get(at).copied() else {
+    let mut product = Product {
+        programme,
+        rule,
+        reached: BTreeSet::new(heap),
+    };
+    let mut level = product.roots(heap)?;
+    for length in 0..usize::MAX {
+        if level.is_empty() {
             break;
-        };
-        if has(programme.ends, node.state) && node.states & rule.ends == 0 {
-            return Ok(Some(node.length));
         }
-        expand(programme, rule, node, &mut nodes)?;
+        if level.iter().any(|node| product.is_missed(*node)) {
+            return Ok(Some(length));
+        }
+        level = product.next_level(heap, level.as_slice())?;
     }
     Ok(None)
 }

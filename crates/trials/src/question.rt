@@ -1,12 +1,11 @@
-use order::interface::Order;
+ghost use Rattle.trials.specs.Plans.{meant};
+
+use crate::both::Both;
 use plan::file::FilePlan;
 use plan::interface::Plan;
 use plan::refusal::Refusal;
 use plan::table::Table;
-use search::compare::compare;
-use search::open::open;
-use search::pair::Pair;
-use walk::slot::Slot;
+use std::fmt;
 
 /// One of the two searches.
 #[derive(Clone, Copy)]
@@ -17,80 +16,91 @@ pub(crate) enum Question {
     Open { commands: u8 },
 }
 
-/// A programme and a rule, each drawn on a table and written to a file.
-#[derive(Drop)]
-pub(crate) struct Plans {
-    pub programme: Table,
-    pub rule: Table,
-    pub programme_file: Vec<u8>,
-    pub rule_file: Vec<u8>,
-}
-
-/// Which kind of plan each side is in a call.
-#[derive(Clone, Copy)]
-pub(crate) struct Mix {
-    /// The programme is read from its file.
-    pub reads_programme: bool,
-    /// The rule is read from its file.
-    pub reads_rule: bool,
-}
-
-impl Mix {
-    /// One of the four, by a number.
-    pub(crate) fn numbered(number: u64) -> Mix {
-        Mix {
-            reads_programme: number % 2 == 1,
-            reads_rule: number / 2 % 2 == 1,
+impl fmt::Display for Question {
+    fn fmt<W: fmt::Write>(&self, f: &mut fmt::Formatter<W>) -> fmt::Result {
+        match self {
+            Question::Compare => write!(f, "compare"),
+            Question::Open { commands } => write!(f, "open {commands}"),
         }
     }
 }
 
-/// Compares a programme with the rule, drawn or read.
-fn compare_rule<P: Plan, O: Order>(
-    programme: &P,
-    plans: &Plans,
-    mix: Mix,
-    order: &O,
-    slots: &mut [Slot<Pair>],
-    run: &mut [u8],
-) -> Result<(u8, usize, usize), Refusal> {
-    if mix.reads_rule {
-        let rule = FilePlan::read(plans.rule_file.as_slice())?;
-        compare(programme, &rule, order, slots, run)
-    } else {
-        compare(programme, &plans.rule, order, slots, run)
+/// In which form a plan is handed to a call.
+#[derive(Clone, Copy)]
+pub(crate) enum Form {
+    /// As it is drawn on a table.
+    Drawn,
+    /// As it is read from its file.
+    Read,
+}
+
+impl From<u64> for Both<Form> {
+    /// The four mixes of forms, one after the other as the number goes up.
+    fn from(number: u64) -> Both<Form> {
+        let (programme, rule) = match number % 4 {
+            0 => (Form::Drawn, Form::Drawn),
+            1 => (Form::Read, Form::Drawn),
+            2 => (Form::Drawn, Form::Read),
+            _ => (Form::Read, Form::Read),
+        };
+        Both { programme, rule }
     }
 }
 
-/// Compares the two plans, each drawn or read.
-pub(crate) fn compare_plans<O: Order>(
-    plans: &Plans,
-    mix: Mix,
-    order: &O,
-    slots: &mut [Slot<Pair>],
-    run: &mut [u8],
-) -> Result<(u8, usize, usize), Refusal> {
-    if mix.reads_programme {
-        let programme = FilePlan::read(plans.programme_file.as_slice())?;
-        compare_rule(&programme, plans, mix, order, slots, run)
-    } else {
-        compare_rule(&plans.programme, plans, mix, order, slots, run)
+/// A plan, drawn on a table and written to a file.
+#[derive(Drop)]
+pub(crate) struct Written {
+    pub table: Table,
+    pub file: Vec<u8>,
+}
+
+impl Written {
+    /// The plan in one of its forms. It is refused where the file is none.
+    pub(crate) fn plan(&self, form: Form) -> Result<AnyPlan<'_>, Refusal> {
+        match form {
+            Form::Drawn => Ok(AnyPlan::Drawn(&self.table)),
+            Form::Read => Ok(AnyPlan::Read(FilePlan::read(self.file.as_slice())?)),
+        }
     }
 }
 
-/// Asks whether the rule is open, drawn or read.
-pub(crate) fn open_rule<O: Order>(
-    plans: &Plans,
-    mix: Mix,
-    order: &O,
-    commands: u8,
-    slots: &mut [Slot<u32>],
-    run: &mut [u8],
-) -> Result<(u8, usize, usize), Refusal> {
-    if mix.reads_rule {
-        let rule = FilePlan::read(plans.rule_file.as_slice())?;
-        open(&rule, commands, order, slots, run)
-    } else {
-        open(&plans.rule, commands, order, slots, run)
+/// A plan in either form.
+#[derive(Drop)]
+pub(crate) enum AnyPlan<'a> {
+    /// It is drawn on a table.
+    Drawn(&'a Table),
+    /// It is read from a file.
+    Read(FilePlan<'a>),
+}
+
+impl<'a> Plan for AnyPlan<'a> {
+    ghost meaning = { meant };
+
+    fn count(&self) -> u8 {
+        match self {
+            AnyPlan::Drawn(table) => table.count(),
+            AnyPlan::Read(file) => file.count(),
+        }
+    }
+
+    fn starts(&self) -> u32 {
+        match self {
+            AnyPlan::Drawn(table) => table.starts(),
+            AnyPlan::Read(file) => file.starts(),
+        }
+    }
+
+    fn ends(&self) -> u32 {
+        match self {
+            AnyPlan::Drawn(table) => table.ends(),
+            AnyPlan::Read(file) => file.ends(),
+        }
+    }
+
+    fn targets(&self, state: u8, command: u8) -> u32 {
+        match self {
+            AnyPlan::Drawn(table) => table.targets(state, command),
+            AnyPlan::Read(file) => file.targets(state, command),
+        }
     }
 }

@@ -33,7 +33,7 @@ impl Random {
         if limit == 0 {
             return 0;
         }
-        (number % limit as u64) as u8
+        (number % u64::from(limit)) as u8
     }
 
     /// Yes, so many times out of a hundred.

@@ -1,4 +1,5 @@
 ghost use Rattle.std.specs.Prelude.{◌≡◌, ◌/◌, ◌%◌, ◌^◌, ◌==◌};
+ghost use Rattle.std.specs.Iterator.{IsFinite};
 
 use plan::refusal::Refusal;
 use plan::table::Table;
@@ -11,11 +12,19 @@ pub(crate) fn bit(state: u8) -> u32
     1 << (state % 32)
 }
 
+// Stays: the automata's `contains` does it too. The checker shares nothing with what it checks.
 /// Whether the set has the state.
 pub(crate) fn has(set: u32, state: u8) -> bool
     ensures { result ≡ ((set / 2 ^ (state % 32) % 2) == 1) }
 {
     (set >> (state % 32)) % 2 == 1
+}
+
+/// The set of the states.
+pub(crate) fn set_of<I: Iterator<Item = u8>>(states: I) -> u32
+    requires { I.can_next states × IsFinite (I.remaining states) }
+{
+    states.fold(0, |set, state| set | bit(state))
 }
 
 /// An arrow: from one state, under a command, to another.
@@ -48,48 +57,48 @@ impl Sketch {
 
     /// The states to which arrows under the command lead from the states of the set.
     pub(crate) fn onward(&self, set: u32, command: u8) -> u32 {
-        let mut reached = 0;
-        for arrow in self.arrows.iter() {
-            if arrow.command == command && has(set, arrow.from) {
-                reached |= bit(arrow.to);
-            }
-        }
-        reached
+        let arrows = self.arrows.iter();
+        set_of(
+            arrows
+                .filter(|arrow| arrow.command == command && has(set, arrow.from))
+                .map(|arrow| arrow.to),
+        )
     }
 
     /// How many of the first commands have arrows, at least one.
     pub(crate) fn used_commands(&self) -> u8 {
-        for command in 0..26u8 {
-            if self.onward(u32::MAX, command) == 0 {
-                return command.max(1);
-            }
-        }
-        26
+        (0..26u8)
+            .find(|command| self.onward(u32::MAX, *command) == 0)
+            .map_or(26, |command| command.max(1))
     }
 
     /// Whether the run leads from a start to an end, followed as the exact set of states that it reaches.
     pub(crate) fn permits(&self, run: &[u8]) -> bool {
-        let mut reached = self.starts;
-        for command in run {
-            reached = self.onward(reached, *command);
-        }
+        let reached = run.iter().fold(
+            self.starts,
+            |reached, command| self.onward(reached, *command),
+        );
         reached & self.ends != 0
     }
+}
 
-    /// Draws the plan on a table that has no states yet.
-    pub(crate) fn draw_on(&self, table: &mut Table) -> Result<(), Refusal> {
-        for state in 0..self.count {
+impl TryFrom<&Sketch> for Table {
+    type Error = Refusal;
+
+    fn try_from(sketch: &Sketch) -> Result<Table, Refusal> {
+        let mut table = Table::new();
+        for state in 0..sketch.count {
             table.add_state()?;
-            if has(self.starts, state) {
+            if has(sketch.starts, state) {
                 table.mark_start(state)?;
             }
-            if has(self.ends, state) {
+            if has(sketch.ends, state) {
                 table.mark_end(state)?;
             }
         }
-        for arrow in self.arrows.iter() {
+        for arrow in sketch.arrows.iter() {
             table.draw_arrow(arrow.from, arrow.command, arrow.to)?;
         }
-        Ok(())
+        Ok(table)
     }
 }

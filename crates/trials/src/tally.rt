@@ -1,7 +1,9 @@
-use crate::answer::{Answer, Report, Verdict};
+use crate::answer::{Answer, Verdict};
 use crate::question::Question;
+use plan::refusal::Refusal;
 use std::alloc::{AllocError, Global};
 use std::fmt;
+use thiserror::Error;
 
 /// How many calls were answered how.
 #[derive(Clone, Copy, Default)]
@@ -15,23 +17,24 @@ pub(crate) struct Counts {
 impl Counts {
     /// Counts an answer.
     fn count(&mut self, answer: Answer) {
-        match answer {
-            Answer::Refused(_) => self.refused = self.refused.wrapping_add(1),
-            Answer::Found(outcome) => match outcome.verdict {
-                Verdict::Passed => self.passed = self.passed.wrapping_add(1),
-                Verdict::Failed => self.failed = self.failed.wrapping_add(1),
-                _ => self.full = self.full.wrapping_add(1),
-            },
-        }
+        let count = match answer.map(|outcome| outcome.verdict) {
+            Ok(Verdict::Passed) => &mut self.passed,
+            Ok(Verdict::Failed) => &mut self.failed,
+            Ok(_) => &mut self.full,
+            Err(_) => &mut self.refused,
+        };
+        *count = count.wrapping_add(1);
     }
 }
 
 impl fmt::Display for Counts {
     fn fmt<W: fmt::Write>(&self, f: &mut fmt::Formatter<W>) -> fmt::Result {
-        let passed = self.passed;
-        let failed = self.failed;
-        let full = self.full;
-        let refused = self.refused;
+        let Counts {
+            passed,
+            failed,
+            full,
+            refused,
+        } = self;
         write!(
             f,
             "{passed} passed, {failed} failed, {full} full, {refused} refused"
@@ -49,27 +52,30 @@ pub(crate) struct Broken {
 }
 
 impl Broken {
-    /// Counts an order that is to be refused with this number.
-    fn count(&mut self, number: u8) {
-        match number {
-            6 => self.first = self.first.wrapping_add(1),
-            7 => self.second = self.second.wrapping_add(1),
-            8 => self.third = self.third.wrapping_add(1),
-            _ => self.fourth = self.fourth.wrapping_add(1),
-        }
+    /// Counts an order that is to be refused so.
+    fn count(&mut self, due: Refusal) {
+        let count = match due {
+            Refusal::NotReflexive { .. } => &mut self.first,
+            Refusal::NotTransitive { .. } => &mut self.second,
+            Refusal::EndNotKept { .. } => &mut self.third,
+            _ => &mut self.fourth,
+        };
+        *count = count.wrapping_add(1);
     }
 }
 
 impl fmt::Display for Broken {
     fn fmt<W: fmt::Write>(&self, f: &mut fmt::Formatter<W>) -> fmt::Result {
-        let first = self.first;
-        let second = self.second;
-        let third = self.third;
-        let fourth = self.fourth;
+        let Broken {
+            first,
+            second,
+            third,
+            fourth,
+        } = self;
         let all = first
-            .wrapping_add(second)
-            .wrapping_add(third)
-            .wrapping_add(fourth);
+            .wrapping_add(*second)
+            .wrapping_add(*third)
+            .wrapping_add(*fourth);
         write!(
             f,
             "{all} unlawful (first law {first}, second {second}, third {third}, fourth {fourth})"
@@ -78,7 +84,7 @@ impl fmt::Display for Broken {
 }
 
 /// Which order a question was asked under.
-#[derive(Clone, Copy)]
+#[derive(Clone, Copy, PartialEq, Eq)]
 pub(crate) enum Kind {
     /// Each number is below itself alone.
     Same,
@@ -90,34 +96,57 @@ pub(crate) enum Kind {
     Drawn,
 }
 
+impl Kind {
+    /// Whether it keeps the laws by its making.
+    pub(crate) fn is_lawful(self) -> bool {
+        self != Kind::Drawn
+    }
+
+    /// Whether it is handed over as bytes.
+    fn is_delivered(self) -> bool {
+        matches!(self, Kind::Mended | Kind::Drawn)
+    }
+}
+
+impl fmt::Display for Kind {
+    fn fmt<W: fmt::Write>(&self, f: &mut fmt::Formatter<W>) -> fmt::Result {
+        f.write_str(match self {
+            Kind::Same => "same",
+            Kind::Greatest => "greatest",
+            Kind::Mended => "delivered, mended",
+            Kind::Drawn => "delivered, as drawn",
+        })
+    }
+}
+
 /// What differed from what was expected.
-#[derive(Clone, Copy)]
+#[derive(Clone, Copy, Debug, Error)]
 pub(crate) enum Fault {
-    /// The plan was not drawn, written or read.
+    #[error("a plan is not drawn, written or read as it should be")]
     Plan,
-    /// The verdict is not the checker's.
+    #[error("the verdict is not the checker's")]
     Verdict,
-    /// The run is not as long as a shortest one.
+    #[error("the run is not as long as a shortest one")]
     Length,
-    /// The run is not one that the programme permits and the rule does not.
+    #[error("the run is not one that the programme permits and the rule does not")]
     Run,
-    /// Bytes behind the run were changed.
+    #[error("bytes behind the run were changed")]
     Bytes,
-    /// Slots behind the stored ones were changed.
+    #[error("slots behind the stored ones were changed")]
     Slots,
-    /// The count of stored items is not possible.
+    #[error("so many items cannot be stored")]
     Stored,
-    /// Full where it may not be.
+    #[error("full where it may not be")]
     Full,
-    /// Another answer or another run than with fewer slots or the other kind of plan.
+    #[error("not the answer and the run of fewer slots or of other plans")]
     Changed,
-    /// Refused, not refused, or refused otherwise than expected.
+    #[error("the refusal is not the one that is due")]
     Refusal,
-    /// An order that keeps the laws by its making breaks one.
+    #[error("the order breaks a law")]
     Law,
-    /// The greatest order is not the one of the definition.
+    #[error("the greatest order is not the one of its definition")]
     Greatest,
-    /// The known file is not written or read as it should be.
+    #[error("the file of the plan of one state is another")]
     KnownFile,
 }
 
@@ -131,75 +160,19 @@ pub(crate) struct Difference {
     pub fault: Fault,
 }
 
-impl Kind {
-    /// Whether it keeps the laws by its making.
-    pub(crate) fn is_lawful(self) -> bool {
-        match self {
-            Kind::Drawn => false,
-            _ => true,
-        }
-    }
-
-    /// Whether it is handed over as bytes.
-    fn is_delivered(self) -> bool {
-        match self {
-            Kind::Mended | Kind::Drawn => true,
-            _ => false,
-        }
-    }
-
-    /// The order in words.
-    fn text(self) -> &'static str {
-        match self {
-            Kind::Same => "same",
-            Kind::Greatest => "greatest",
-            Kind::Mended => "delivered, mended",
-            Kind::Drawn => "delivered, as drawn",
-        }
-    }
-}
-
-impl Fault {
-    /// What differed, in words.
-    fn text(self) -> &'static str {
-        match self {
-            Fault::Plan => "a plan is not drawn, written or read as it should be",
-            Fault::Verdict => "the verdict is not the checker's",
-            Fault::Length => "the run is not as long as a shortest one",
-            Fault::Run => "the run is not one that the programme permits and the rule does not",
-            Fault::Bytes => "bytes behind the run were changed",
-            Fault::Slots => "slots behind the stored ones were changed",
-            Fault::Stored => "so many items cannot be stored",
-            Fault::Full => "full where it may not be",
-            Fault::Changed => "not the answer and the run of fewer slots or of other plans",
-            Fault::Refusal => "the refusal is not the one that is due",
-            Fault::Law => "the order breaks a law",
-            Fault::Greatest => "the greatest order is not the one of its definition",
-            Fault::KnownFile => "the file of the plan of one state is another",
-        }
-    }
-}
-
 impl fmt::Display for Difference {
     fn fmt<W: fmt::Write>(&self, f: &mut fmt::Formatter<W>) -> fmt::Result {
-        let seed = self.seed;
-        let slots = self.slots;
-        let order = self.kind.text();
-        let fault = self.fault.text();
-        match self.question {
-            Question::Compare => {
-                write!(
-                    f,
-                    "seed {seed}, compare, order {order}, {slots} slots: {fault}"
-                )
-            }
-            Question::Open { commands } => {
-                write!(
-                    f,
-                    "seed {seed}, open {commands}, order {order}, {slots} slots: {fault}"
-                )
-            }
-        }
+        let Difference {
+            seed,
+            question,
+            kind,
+            slots,
+            fault,
+        } = self;
+        write!(
+            f,
+            "seed {seed}, {question}, order {kind}, {slots} slots: {fault}"
+        )
     }
 }
 
@@ -233,19 +206,21 @@ impl Tally {
 
     /// Counts the answer of a call.
     pub(crate) fn count(&mut self, question: Question, answer: Answer) {
-        self.longest = self.longest.max(answer.length());
+        if let Ok(outcome) = answer {
+            self.longest = self.longest.max(outcome.length);
+        }
         match question {
             Question::Compare => self.comparisons.count(answer),
             Question::Open { .. } => self.openings.count(answer),
         }
     }
 
-    /// Counts a delivered order, with the refusal that is due for it.
-    pub(crate) fn count_order(&mut self, kind: Kind, refusal: Option<Report>) {
+    /// Counts a delivered order, with the refusal that is due where it breaks a law.
+    pub(crate) fn count_order(&mut self, kind: Kind, laws: Result<(), Refusal>) {
         if kind.is_delivered() {
-            match refusal {
-                Some(report) => self.broken.count(report.number),
-                None => self.lawful = self.lawful.wrapping_add(1),
+            match laws {
+                Ok(()) => self.lawful = self.lawful.wrapping_add(1),
+                Err(due) => self.broken.count(due),
             }
         }
     }
@@ -265,5 +240,24 @@ impl Tally {
             slots: 0,
             fault,
         })
+    }
+}
+
+impl fmt::Display for Tally {
+    fn fmt<W: fmt::Write>(&self, f: &mut fmt::Formatter<W>) -> fmt::Result {
+        let Tally {
+            plans,
+            comparisons,
+            openings,
+            lawful,
+            broken,
+            longest,
+            ..
+        } = self;
+        writeln!(f, "plans: {plans}, each drawn and read from its file")?;
+        writeln!(f, "comparisons: {comparisons}")?;
+        writeln!(f, "openings: {openings}")?;
+        writeln!(f, "delivered orders: {lawful} lawful, {broken}")?;
+        write!(f, "longest run: {longest}")
     }
 }

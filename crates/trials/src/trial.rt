@@ -1,39 +1,20 @@
 ghost use Rattle.std.specs.Prelude.{◌≡◌, min};
 
-use crate::answer::{Answer, Outcome, Report, Verdict};
-use crate::buffers::{Bench, Call};
-use crate::question::{Mix, Plans, Question};
+use crate::answer::{Answer, Outcome, Verdict};
+use crate::both::Both;
+use crate::buffers::Call;
+use crate::question::Question;
 use crate::session::Session;
-use crate::sketch::Sketch;
+use crate::subject::Subject;
 use crate::tally::{Difference, Fault, Kind};
 use order::interface::Order;
-use std::alloc::{AllocError, Global};
+use plan::refusal::Refusal;
+use std::alloc::AllocError;
 
 /// The numbers of slots that every question is asked with, ascending. The first 4,096 of them are usable.
 const NUMBERS: [usize; 9] = [0, 1, 2, 3, 5, 8, 40, 4096, 5000];
 
-/// What the checker says of a question: the refusal that is due, the length of a shortest run that is missed, and from
-/// how many usable slots on it may not be full.
-#[derive(Clone, Copy)]
-pub(crate) struct Expected {
-    pub refusal: Option<Report>,
-    pub missed: Option<usize>,
-    pub enough: usize,
-}
-
-/// A question under an order: where it comes from, and what the checker says of it.
-#[derive(Drop)]
-pub(crate) struct Trial<'a> {
-    pub seed: u64,
-    pub question: Question,
-    pub kind: Kind,
-    /// What permits the runs that are asked about.
-    pub programme: &'a Sketch,
-    /// What must permit them all.
-    pub rule: &'a Sketch,
-    pub expected: Expected,
-}
-
+// Stays: the walk counts its usable slots too. The checker shares nothing with what it checks.
 /// How many of so many slots are usable.
 fn usable(slots: usize) -> usize
     ensures { result ≡ min slots 4096 }
@@ -41,100 +22,63 @@ fn usable(slots: usize) -> usize
     slots.min(4096)
 }
 
-/// What is wrong with what was found, if anything.
-fn judge_outcome(expected: Expected, slots: usize, outcome: Outcome) -> Option<Fault> {
-    if outcome.stored > usable(slots) {
-        return Some(Fault::Stored);
-    }
-    match (outcome.verdict, expected.missed) {
-        (Verdict::Passed, None) => None,
-        (Verdict::Failed, Some(length)) => {
-            if outcome.length == length {
-                None
-            } else {
-                Some(Fault::Length)
-            }
-        }
-        (Verdict::Full, _) => {
-            if outcome.stored == usable(slots) && usable(slots) < expected.enough {
-                None
-            } else {
-                Some(Fault::Full)
-            }
-        }
-        _ => Some(Fault::Verdict),
+/// The number of a refusal that is due, and none for a refusal that never is.
+fn number_due(due: Refusal) -> Option<u8> {
+    match due {
+        Refusal::RunBufferShort => Some(5),
+        Refusal::NotReflexive { .. } => Some(6),
+        Refusal::NotTransitive { .. } => Some(7),
+        Refusal::EndNotKept { .. } => Some(8),
+        Refusal::ArrowNotMatched { .. } => Some(9),
+        Refusal::CommandCount => Some(10),
+        _ => None,
     }
 }
 
-/// What is wrong with an answer, if anything.
-fn judge(expected: Expected, slots: usize, answer: Answer) -> Option<Fault> {
-    match (answer, expected.refusal) {
-        (Answer::Refused(report), Some(due)) => {
-            if report == due {
-                None
-            } else {
-                Some(Fault::Refusal)
-            }
-        }
-        (Answer::Found(outcome), None) => judge_outcome(expected, slots, outcome),
-        _ => Some(Fault::Refusal),
-    }
+/// Whether it is the refusal that is due, by its values and by its number.
+fn is_due(refusal: Refusal, due: Refusal) -> bool {
+    refusal == due && number_due(due) == Some(refusal.number())
 }
 
-/// What is wrong with the run and the buffers that a call has left, if anything.
-fn judge_run(trial: &Trial<'_>, bench: &Bench, call: Call, answer: Answer) -> Option<Fault> {
-    if !bench.kept_bytes(call, answer.length()) {
-        return Some(Fault::Bytes);
-    }
-    if !bench.kept_slots(call, answer.stored()) {
-        return Some(Fault::Slots);
-    }
-    if let Answer::Found(outcome) = answer {
-        if outcome.verdict == Verdict::Failed {
-            let run = bench.run(outcome.length);
-            if !trial.programme.permits(run) || trial.rule.permits(run) {
-                return Some(Fault::Run);
-            }
-        }
-    }
-    None
-}
-
-/// An answer with its run, that other calls must give again.
-#[derive(Drop)]
+/// An answer with its run.
+#[derive(PartialEq, Eq, Drop)]
 struct Given {
-    answer: Option<Answer>,
+    answer: Answer,
     run: Vec<u8>,
 }
 
 impl Given {
-    /// No answer yet.
-    fn new(heap: Global) -> Given {
-        Given {
-            answer: None,
-            run: Vec::new(heap),
-        }
-    }
-
-    /// Whether there is one.
-    fn is_there(&self) -> bool {
-        self.answer.is_some()
-    }
-
-    /// Whether the answer and the run are those that were given first. Where none were, these are.
-    fn agrees(&mut self, answer: Answer, run: &[u8]) -> Result<bool, AllocError> {
-        match self.answer {
-            Some(first) => Ok(first == answer && self.run.as_slice() == run),
-            None => {
-                self.answer = Some(answer);
-                self.run.extend_from_slice(run)?;
-                Ok(true)
-            }
-        }
+    /// Whether it says that the slots did not suffice.
+    fn is_full(&self) -> bool {
+        self.answer
+            .is_ok_and(|outcome| outcome.verdict == Verdict::Full)
     }
 }
 
-impl<'a> Trial<'a> {
+/// Whether it is what was given first. Where nothing was, it is the first.
+fn agrees(first: &mut Option<Given>, given: Given) -> bool {
+    let given = Some(given);
+    if first.is_none() {
+        *first = given;
+        true
+    } else {
+        *first == given
+    }
+}
+
+/// A question under an order, and what the checker says of it.
+#[derive(Drop)]
+pub(crate) struct Trial<'a, O> {
+    pub subject: Subject<'a>,
+    pub kind: Kind,
+    pub order: &'a O,
+    /// Whether the order keeps the laws, and else the refusal that is due.
+    pub laws: Result<(), Refusal>,
+    /// From how many usable slots on the answer may not be full.
+    pub enough: usize,
+}
+
+impl<'a, O: Order> Trial<'a, O> {
     /// Notes that something differs.
     pub(crate) fn note(
         &self,
@@ -143,154 +87,168 @@ impl<'a> Trial<'a> {
         session: &mut Session,
     ) -> Result<(), AllocError> {
         session.tally.note(Difference {
-            seed: self.seed,
-            question: self.question,
+            seed: self.subject.round.seed,
+            question: self.subject.question,
             kind: self.kind,
             slots,
             fault,
         })
     }
 
-    /// Makes a call, counts its answer, and holds it against the checker.
-    fn make<O: Order>(
-        &self,
-        plans: &Plans,
-        order: &O,
-        call: Call,
-        session: &mut Session,
-    ) -> Result<Answer, AllocError> {
-        let answer = session.bench.ask(plans, order, call);
-        session.tally.count(self.question, answer);
-        if let Some(fault) = judge(self.expected, call.slots, answer) {
+    /// Judges what was found with so many slots.
+    fn judge_outcome(&self, slots: usize, outcome: Outcome) -> Result<(), Fault> {
+        let usable = usable(slots);
+        if outcome.stored > usable {
+            return Err(Fault::Stored);
+        }
+        match (outcome.verdict, self.subject.missed) {
+            (Verdict::Passed, None) => Ok(()),
+            (Verdict::Failed, Some(length)) if outcome.length == length => Ok(()),
+            (Verdict::Failed, Some(_)) => Err(Fault::Length),
+            (Verdict::Full, _) if outcome.stored == usable && usable < self.enough => Ok(()),
+            (Verdict::Full, _) => Err(Fault::Full),
+            _ => Err(Fault::Verdict),
+        }
+    }
+
+    /// Judges an answer to a call with so many slots.
+    fn judge(&self, slots: usize, answer: Answer) -> Result<(), Fault> {
+        match (answer, self.laws) {
+            (Ok(outcome), Ok(())) => self.judge_outcome(slots, outcome),
+            (Err(refusal), Err(due)) if is_due(refusal, due) => Ok(()),
+            _ => Err(Fault::Refusal),
+        }
+    }
+
+    /// Judges the run that came with an answer: where it failed, the programme permits the run and the rule does not.
+    fn judge_run(&self, answer: Answer, run: &[u8]) -> Result<(), Fault> {
+        match answer {
+            Ok(outcome) if outcome.verdict == Verdict::Failed => {
+                if self.subject.asked.permits(run) && !self.subject.sides.rule.permits(run) {
+                    Ok(())
+                } else {
+                    Err(Fault::Run)
+                }
+            }
+            _ => Ok(()),
+        }
+    }
+
+    /// Makes a call and counts its answer.
+    fn ask(&self, call: Call, session: &mut Session) -> Answer {
+        let answer = session
+            .bench
+            .ask(&self.subject.round.plans, self.order, call);
+        session.tally.count(self.subject.question, answer);
+        answer
+    }
+
+    /// Makes a call, and holds its answer, its run and what it left of the buffers against the checker.
+    fn make(&self, call: Call, session: &mut Session) -> Result<Given, AllocError> {
+        let answer = self.ask(call, session);
+        let run = Vec::from_slice(session.heap, session.bench.run(answer))?;
+        if let Err(fault) = self.judge(call.slots, answer) {
             self.note(call.slots, fault, session)?;
         }
-        if let Some(fault) = judge_run(self, &session.bench, call, answer) {
+        let judged = session
+            .bench
+            .check_kept(call, answer)
+            .and_then(|()| self.judge_run(answer, run.as_slice()));
+        if let Err(fault) = judged {
             self.note(call.slots, fault, session)?;
         }
-        Ok(answer)
+        Ok(Given { answer, run })
     }
 
     /// Asks with every number of slots. From the first answer that is not full on, all are the same.
-    fn hold_numbers<O: Order>(
-        &self,
-        plans: &Plans,
-        order: &O,
-        session: &mut Session,
-    ) -> Result<(), AllocError> {
-        let mut given = Given::new(session.heap);
-        let mut number = self.seed;
-        for slots in NUMBERS.iter() {
-            number = number.wrapping_add(1);
+    fn hold_numbers(&self, session: &mut Session) -> Result<(), AllocError> {
+        let mut first = None;
+        for (k, slots) in NUMBERS.into_iter().enumerate() {
+            let number = self.subject.round.seed.wrapping_add(1 + k as u64);
             let call = Call {
-                question: self.question,
-                slots: *slots,
-                bytes: usable(*slots).saturating_add((number % 3) as usize),
-                mix: Mix::numbered(number),
-            };
-            let answer = self.make(plans, order, call, session)?;
-            if given.is_there() || !answer.is_full() {
-                if !given.agrees(answer, session.bench.run(answer.length()))? {
-                    self.note(*slots, Fault::Changed, session)?;
-                }
-            }
-        }
-        Ok(())
-    }
-
-    /// Asks with one number of slots and with the plans drawn and read in every way: all answers are the same.
-    fn hold_mixes<O: Order>(
-        &self,
-        plans: &Plans,
-        order: &O,
-        session: &mut Session,
-    ) -> Result<(), AllocError> {
-        let slots = (self.seed % 12) as usize;
-        let mut given = Given::new(session.heap);
-        for number in 0..4u64 {
-            let call = Call {
-                question: self.question,
+                question: self.subject.question,
                 slots,
-                bytes: slots,
-                mix: Mix::numbered(number),
+                bytes: usable(slots).saturating_add((number % 3) as usize),
+                forms: Both::from(number),
             };
-            let answer = self.make(plans, order, call, session)?;
-            if !given.agrees(answer, session.bench.run(answer.length()))? {
+            let given = self.make(call, session)?;
+            if (first.is_some() || !given.is_full()) && !agrees(&mut first, given) {
                 self.note(slots, Fault::Changed, session)?;
             }
         }
         Ok(())
     }
 
-    /// Makes a call that must be refused with a number that has no values, whatever the order, and change nothing.
-    fn hold_refusal<O: Order>(
+    /// Asks with one number of slots and with the plans drawn and read in every way: all answers are the same.
+    fn hold_mixes(&self, session: &mut Session) -> Result<(), AllocError> {
+        let slots = (self.subject.round.seed % 12) as usize;
+        let mut first = None;
+        for number in 0..4u64 {
+            let call = Call {
+                question: self.subject.question,
+                slots,
+                bytes: slots,
+                forms: Both::from(number),
+            };
+            if !agrees(&mut first, self.make(call, session)?) {
+                self.note(slots, Fault::Changed, session)?;
+            }
+        }
+        Ok(())
+    }
+
+    /// Makes a call that must be refused, whatever the order, and change nothing.
+    fn hold_refusal(
         &self,
-        plans: &Plans,
-        order: &O,
         call: Call,
-        number: u8,
+        due: Refusal,
         session: &mut Session,
     ) -> Result<(), AllocError> {
-        let answer = session.bench.ask(plans, order, call);
-        session.tally.count(self.question, answer);
-        let due = Answer::Refused(Report {
-            number,
-            values: ([0, 0, 0, 0], 0),
-        });
-        if answer != due {
+        let answer = self.ask(call, session);
+        if !answer.is_err_and(|refusal| is_due(refusal, due)) {
             self.note(call.slots, Fault::Refusal, session)?;
         }
-        if !session.bench.kept_bytes(call, 0) || !session.bench.kept_slots(call, 0) {
-            self.note(call.slots, Fault::Bytes, session)?;
+        if let Err(fault) = session.bench.check_kept(call, Err(due)) {
+            self.note(call.slots, fault, session)?;
         }
         Ok(())
     }
 
     /// Makes the calls that are refused whatever the order: with a run buffer that is one byte too short, and with a
     /// number of commands that there is not.
-    fn hold_refusals<O: Order>(
-        &self,
-        plans: &Plans,
-        order: &O,
-        session: &mut Session,
-    ) -> Result<(), AllocError> {
-        let slots = if self.seed % 8 == 0 {
+    fn hold_refusals(&self, session: &mut Session) -> Result<(), AllocError> {
+        let seed = self.subject.round.seed;
+        let slots = if seed % 8 == 0 {
             5000
         } else {
-            (self.seed % 40) as usize
+            (seed % 40) as usize
         };
-        let mix = Mix::numbered(self.seed);
         let short = Call {
-            question: self.question,
+            question: self.subject.question,
             slots,
             bytes: usable(slots).saturating_sub(1),
-            mix,
+            forms: Both::from(seed),
         };
         if slots > 0 {
-            self.hold_refusal(plans, order, short, 5, session)?;
+            self.hold_refusal(short, Refusal::RunBufferShort, session)?;
         }
-        if let Question::Open { .. } = self.question {
-            let commands = if self.seed % 2 == 0 { 0 } else { 27 };
+        if let Question::Open { .. } = self.subject.question {
+            let commands = if seed % 2 == 0 { 0 } else { 27 };
             let beyond = Call {
                 question: Question::Open { commands },
-                slots,
                 bytes: 0,
-                mix,
+                ..short
             };
-            self.hold_refusal(plans, order, beyond, 10, session)?;
+            self.hold_refusal(beyond, Refusal::CommandCount, session)?;
         }
         Ok(())
     }
 
     /// Holds all answers to the question under the order against the checker and against each other.
-    pub(crate) fn hold<O: Order>(
-        &self,
-        plans: &Plans,
-        order: &O,
-        session: &mut Session,
-    ) -> Result<(), AllocError> {
+    pub(crate) fn hold(&self, session: &mut Session) -> Result<(), AllocError> {
         session.tally.trials = session.tally.trials.wrapping_add(1);
-        self.hold_numbers(plans, order, session)?;
-        self.hold_mixes(plans, order, session)?;
-        self.hold_refusals(plans, order, session)
+        self.hold_numbers(session)?;
+        self.hold_mixes(session)?;
+        self.hold_refusals(session)
     }
 }

@@ -11,7 +11,6 @@ pub mod Covering
 pub mod Withdrawing
 pub mod Offering
 pub mod Fanning
-pub mod Expanding
 pub mod Picking
 pub mod Walking
 pub mod Leaving

@@ -1,21 +1,15 @@
 -- The five ways of an offer, and the slots that the program has after it.
-use Rattle.std.proofs.Common.{◌≡◌, ℕ, ◌+◌, ◌<◌, ◌≤◌, Bool, true, false, cond, ◌||◌, ltb, List, [], ◌∷◌, ◌++◌, map, length, take, drop, set, sym, refl, ap, ◌∙◌, append_assoc, arith}
+use Rattle.std.proofs.Common.{◌≡◌, ℕ, ◌+◌, ◌<◌, ◌≤◌, Bool, true, false, cond, ◌||◌, ltb, List, [], ◌∷◌, ◌++◌, map, length, take, drop, set, Ok, Err, sym, refl, ap, ◌∙◌, append_assoc, arith, length-append, length-set, length-drop}
 use lib.ListN.{length-map}
 use Rattle.std.proofs.lemmas.List.{take_at, drop_at, set_at, drop_more, length-take-le, length_push}
 use Rattle.std.proofs.lemmas.Bool.{lt-ltb, le-ltb}
 use Rattle.walk.specs.declared.slot.Slot.{Slot}
 use Rattle.walk.specs.declared.offer.Ending.TheVariants.{Failed, Full}
-use Rattle.walk.specs.declared.offer.Progress.TheVariants.{Going, Ended}
 use Rattle.walk.specs.Kinds.{Kind}
 use Rattle.walk.specs.Walks.{failed, full, going, ended, fails, covered, withdraw, store, offer}
-use Rattle.walk.specs.Progress.{Reaches}
-
--- a test that stops at the first yes
-pub or_first : (a b r : Bool) → r ≡ true → r ≡ a → r ≡ (a || b)
-or_first a b r e q = let z : a ≡ true = sym q ∙ e in e ∙ rw z
-
-pub or_second : (a b r : Bool) → a ≡ false → r ≡ b → r ≡ (a || b)
-or_second a b r e q = rw e q
+use Rattle.walk.specs.declared.stored.Stored.{Stored}
+use Rattle.walk.specs.Progress.{filled, Reaches}
+use Rattle.walk.proofs.Fanning.{fills_none}
 
 either : {A : Type 0} (a b : Bool) (x y : A) → cond a x (cond b x y) ≡ cond (a || b) x y
 either true b x y = refl
@@ -68,24 +62,32 @@ module _ {I : Type 0} (K : Kind I) (x : Slot I) (before : List (Slot I)) (stored
   stored_drop = ap (drop (stored + 1)) written ∙ drop_at (left ++ (x ∷ [])) (drop (stored + 1) before) (stored + 1) more
 
 -- what the program reaches on each of the ways of an offer
-module _ {I : Type 0} (K : Kind I) (n : ℕ) (x : Slot I) (before : List (Slot I)) (stored : ℕ) (u : stored ≤ n) (w : n ≤ length before) where
-  long : length (take stored before) ≡ stored
-  long = length-take-le stored before (omega arith)
+module _ {I : Type 0} (K : Kind I) (x : Slot I) (before : Stored I) where
+  abbrev n : ℕ
+  n = length before.slots.now
 
-  pub reaches_failed : fails K x ≡ true → Reaches (offer K n x (take stored before)) (Ended (Failed x stored)) stored n before before
-  reaches_failed a = record { is = offer_failed K n x (take stored before) a; beyond = refl; low = omega arith; high = u }
+  long : length (filled before) ≡ before.count
+  long = length-take-le before.count before.slots.now before.within
 
-  pub reaches_dropped : fails K x ≡ false → dropped K n x (take stored before) ≡ true → Reaches (offer K n x (take stored before)) (Going stored) stored n before before
-  reaches_dropped a b = record { is = offer_dropped K n x (take stored before) a b; beyond = refl; low = omega arith; high = u }
+  pub reaches_failed : fails K x ≡ true → Reaches (offer K n x (filled before)) (Err (Failed x)) before before
+  reaches_failed a = record { is = offer_failed K n x (filled before) a; fills = fills_none before }
 
-  pub reaches_full : fails K x ≡ false → dropped K n x (take stored before) ≡ false → stored ≡ n → Reaches (offer K n x (take stored before)) (Ended (Full stored)) stored n before before
-  reaches_full a b e = record { is = offer_filled K n x (take stored before) a b (omega (arith, long)); beyond = refl; low = omega arith; high = u }
+  pub reaches_dropped : fails K x ≡ false → dropped K n x (filled before) ≡ true → Reaches (offer K n x (filled before)) (Ok tt) before before
+  reaches_dropped a b = record { is = offer_dropped K n x (filled before) a b; fills = fills_none before }
 
-  pub reaches_stored : fails K x ≡ false → dropped K n x (take stored before) ≡ false → stored < n → (mid : List (Slot I)) → mid ≡ map (withdraw K x) (take stored before) ++ drop stored before →
-      Reaches (offer K n x (take stored before)) (Going (stored + 1)) stored n before (set mid stored x)
-  reaches_stored a b l mid e = record {
-    is = offer_stored K n x (take stored before) a b (omega (arith, long)) ∙ ap going (stored_take K x before stored (omega arith) mid e);
-    beyond = stored_drop K x before stored (omega arith) mid e;
-    low = omega arith;
-    high = omega arith;
+  pub reaches_full : fails K x ≡ false → dropped K n x (filled before) ≡ false → before.count ≡ n → Reaches (offer K n x (filled before)) (Err Full) before before
+  reaches_full a b e = record { is = offer_filled K n x (filled before) a b (omega (arith, long)); fills = fills_none before }
+
+  pub reaches_stored : fails K x ≡ false → dropped K n x (filled before) ≡ false → (l : before.count < n) → (mid : List (Slot I)) → mid ≡ map (withdraw K x) (filled before) ++ drop before.count before.slots.now →
+      (later : Stored I) → later.slots.now ≡ set mid before.count x → later.count ≡ before.count + 1 → later.slots.ghost_name ≡ before.slots.ghost_name → Reaches (offer K n x (filled before)) (Ok tt) before later
+  reaches_stored a b l mid e later q c g = record {
+    is = offer_stored K n x (filled before) a b (omega (arith, long)) ∙ ap going (stored_take K x before.slots.now before.count l mid e ∙ rw (c, q) refl);
+    fills = record {
+      lent = g;
+      long =
+          ap length q ∙ length-set mid before.count x ∙ ap length e
+          ∙ omega (arith, length-append (map (withdraw K x) (filled before)) (drop before.count before.slots.now), length-map (filled before) (withdraw K x), long, length-drop before.count before.slots.now);
+      low = omega arith;
+      beyond = rw (c, q) (stored_drop K x before.slots.now before.count l mid e);
+    };
   }

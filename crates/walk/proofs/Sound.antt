@@ -4,7 +4,7 @@
 -- runs to the item that covers it, and one that is withdrawn to the new item of its depth. So by induction on the run:
 -- when nothing is left to offer and nothing waits, no run is missed; and when an item of depth d is hit, no run shorter
 -- than d is missed, while the run that leads to the hit is.
-use Rattle.std.proofs.Common.{◌≡◌, ℕ, zero, suc, ◌+◌, ◌<◌, ◌≤◌, true, false, ◌&&◌, ◌⊎◌, List, [], ◌∷◌, ◌++◌, map, length, sym, refl, ap, ◌∙◌, subst, inl, inr, true≢false, arith}
+use Rattle.std.proofs.Common.{◌≡◌, ℕ, zero, suc, ◌+◌, ◌<◌, ◌≤◌, true, false, ◌&&◌, ◌⊎◌, List, [], ◌∷◌, ◌++◌, map, length, sym, refl, ap, ◌∙◌, subst, inl, inr, append_assoc, append-nil, true≢false, arith}
 use mathlib.Core.Bool.{false≢true}
 use Rattle.std.proofs.lemmas.Bool.{and_parts, or_cases, cases_lt, cases_eq}
 use Rattle.walk.specs.declared.slot.Mark.TheVariants.{Waiting}
@@ -12,13 +12,13 @@ use Rattle.walk.specs.declared.slot.Slot.{Slot}
 use Rattle.walk.specs.Lists.{All, Any}
 use Rattle.walk.specs.Slots.{waits, live, fresh, start}
 use Rattle.walk.specs.Kinds.{Kind, Facts, Missed}
-use Rattle.walk.specs.Runs.{run_of}
+use Rattle.walk.specs.Runs.{run_to, run_of}
 use Rattle.walk.specs.Walks.{passed, failed, covered, store, offer, children, walk}
 use Rattle.walk.specs.Statements.{Says, Sound}
 use Rattle.walk.proofs.Lists.{At, all_map, all_both, all_list, all_any, any_map, any_left, any_right, any_list, at_all, members}
 use Rattle.walk.proofs.Marks.{done, live_cases, Sorted, Grows, at_grows, Picks, picks_waits, picks_in, picks_all, picks_any, picks_at, picks_grows, picks_first, picks_sorted, new_store, grows_store, all_store, any_store, sorted_store, offer_cases, fails_hit}
 use Rattle.walk.proofs.Turns.{Left, first, next, children_all, walk_ind}
-use Rattle.walk.proofs.Trails.{trail, trail_whole, run_length}
+use Rattle.walk.proofs.Trails.{run_length}
 
 false_true : {A : Type 0} → false ≡ true → A
 false_true e = absurd (false≢true e)
@@ -168,17 +168,17 @@ module _ {I : Type 0} (K : Kind I) (Fit : I → Type 0) (Misses : I → List ℕ
     passed_says : (s : List (Slot I)) (d : ℕ) → Inv s d [] → All (λ (y : Slot I). waits y.mark ≡ false) s → Says K Misses (passed s)
     passed_says s d i q v m = none_missed s d [] i (λ _. Unit {0}) (λ _ _ _ _. tt) (all_map (λ y e e' _. true≢false (sym e' ∙ e)) s q) (λ k w _ a _. a) v m tt
 
-    trail_missed : (s : List (Slot I)) → All (Descends s) s → (d p c : ℕ) (i : I) (w : List ℕ) → Descent s d p c i → Misses i w → Missed K Misses (trail s d p c w)
-    unfolding trail
-    trail_missed s a zero p c i w r m = r w m
-    trail_missed s a (suc e) p c i w r m =
+    run_missed : (s : List (Slot I)) → All (Descends s) s → (d p c : ℕ) (i : I) (w : List ℕ) → Descent s d p c i → Misses i w → Missed K Misses (run_to s d p c ++ w)
+    unfolding run_to
+    run_missed s a zero p c i w r m = r w m
+    run_missed s a (suc e) p c i w r m =
         at_all s p a r (λ x h q g.
-        rw (g (λ (x : Slot I). x.parent) 65535, g (λ (x : Slot I). x.command) 255)
-        (trail_missed s a e x.parent x.command x.item (c ∷ w) (subst (λ (k : ℕ). Descent s k x.parent x.command x.item) q.0 h) (q.1 w m)))
+        rw (append_assoc, g (λ (x : Slot I). x.parent) 65535, g (λ (x : Slot I). x.command) 255)
+        (run_missed s a e x.parent x.command x.item (c ∷ w) (subst (λ (k : ℕ). Descent s k x.parent x.command x.item) q.0 h) (q.1 w m)))
 
     failed_says : (s : List (Slot I)) (d : ℕ) (x : Slot I) (pend : List (Slot I)) → Inv s d (x ∷ pend) → K.hit x.item ≡ true → Says K Misses (failed x s)
     failed_says s d x pend i e =
-        (subst (Missed K Misses) (trail_whole s x.depth x.parent x.command) (trail_missed s i.descends x.depth x.parent x.command x.item [] i.due.0.descends ((F.hit_empty x.item i.due.0.fit).0 e)), shortest)
+        (subst (Missed K Misses) (append-nil (run_of s x)) (run_missed s i.descends x.depth x.parent x.command x.item [] i.due.0.descends ((F.hit_empty x.item i.due.0.fit).0 e)), shortest)
       where
         shortest : (v : List ℕ) → Missed K Misses v → length (run_of s x) ≤ length v
         shortest v m = go (cases_lt (length v) d)

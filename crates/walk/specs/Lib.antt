@@ -5,5 +5,6 @@ pub mod Fans
 pub mod Runs
 pub mod Walks
 pub mod Answers
+pub mod Verdicts
 pub mod Statements
 pub mod Progress

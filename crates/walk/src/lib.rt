@@ -6,7 +6,10 @@
 #![tactic(auto)]
 
 mod offer;
+mod origin;
 mod run;
 pub mod search;
 pub mod slot;
+mod stored;
+pub mod verdict;
 pub mod walk;

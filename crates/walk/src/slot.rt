@@ -1,8 +1,8 @@
 ghost use Rattle.std.specs.Prelude.{◌≡◌};
-ghost use Rattle.walk.specs.Slots.{waits as waiting, live as unwithdrawn};
+ghost use Rattle.walk.specs.Slots.{fresh};
 
 /// What has become of a stored item.
-#[derive(Clone, Copy, Drop)]
+#[derive(Clone, Copy, Debug, PartialEq, Eq, Drop)]
 pub enum Mark {
     /// Its successors are still to be offered.
     Waiting,
@@ -12,35 +12,11 @@ pub enum Mark {
     Withdrawn,
 }
 
-impl Mark {
-    /// Whether the item waits.
-    pub(crate) fn waits(self) -> bool
-        ensures { result ≡ waiting self }
-    {
-        match self {
-            Mark::Waiting => true,
-            Mark::Taken => false,
-            Mark::Withdrawn => false,
-        }
-    }
-
-    /// Whether the item is not withdrawn.
-    pub(crate) fn live(self) -> bool
-        ensures { result ≡ unwithdrawn self }
-    {
-        match self {
-            Mark::Waiting => true,
-            Mark::Taken => true,
-            Mark::Withdrawn => false,
-        }
-    }
-}
-
 /// An item that the walk has stored, and how it was reached.
 ///
 /// A start has depth 0, parent 65535 and command 255. Any other item is a successor, under `command`, of the item in
 /// slot `parent`, and one deeper.
-#[derive(Clone, Copy)]
+#[derive(Clone, Copy, Debug, PartialEq, Eq)]
 pub struct Slot<I> {
     /// What is stored.
     pub item: I,
@@ -54,10 +30,17 @@ pub struct Slot<I> {
     pub mark: Mark,
 }
 
-/// How items are reached that are offered together: all of a slot but its item and its mark.
-#[derive(Clone, Copy)]
-pub(crate) struct Origin {
-    pub depth: u16,
-    pub parent: u16,
-    pub command: u8,
+impl<I> Slot<I> {
+    /// A slot not used yet, as one that waits at depth 0, with parent 0 and command 0.
+    pub fn blank(item: I) -> Slot<I>
+        ensures { result ≡ fresh 0 0 0 item }
+    {
+        Slot {
+            item,
+            depth: 0,
+            parent: 0,
+            command: 0,
+            mark: Mark::Waiting,
+        }
+    }
 }

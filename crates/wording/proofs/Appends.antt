@@ -4,6 +4,7 @@ use Rattle.std.proofs.lemmas.List.{append_assoc, append-nil, map_more, take_all}
 use Rattle.std.proofs.lemmas.Bool.{cases_lt}
 use Rattle.wording.specs.Texts.{Appends, numeral, behind_spaces}
 use Rattle.wording.specs.Answers.{values_text}
+use Rattle.wording.proofs.Paired.{spaces_append}
 
 -- `now` is `was` with ys behind it, and `was` is what there was first with xs behind it
 pub join : (first was now xs ys : List ℕ) → was ≡ first ++ xs → now ≡ was ++ ys → now ≡ first ++ (xs ++ ys)
@@ -22,23 +23,9 @@ pub same_call : {T E : Type 0} (r : Result T E) (was now xs whole : List ℕ) �
 same_call (Ok x) was now xs whole e q = q ∙ ap (λ (l : List ℕ). was ++ l) e
 same_call (Err x) was now xs whole e q = tt
 
--- the first word of the line, behind a space
-pub first_spaced : (w : List ℕ) (ws all : List (List ℕ)) → all ≡ w ∷ ws → (32 ∷ []) ++ w ≡ behind_spaces (take 1 all)
-first_spaced w ws all e =
-    ap (λ (l : List ℕ). 32 ∷ l) (sym (append-nil w)) ∙ ap (λ (l : List (List ℕ)). behind_spaces (take 1 l)) (sym e)
-
--- a space and a word, and the words that are left
-pub word_spaced : (first was now w : List ℕ) (ws all : List (List ℕ)) → was ≡ first ++ (32 ∷ []) → now ≡ was ++ w → all ≡ w ∷ ws →
-    now ++ behind_spaces ws ≡ first ++ behind_spaces all
-word_spaced first was now w ws all p q e =
-    ap (λ (l : List ℕ). l ++ behind_spaces ws) (join first was now (32 ∷ []) w p q)
-    ∙ append_assoc first (32 ∷ w) (behind_spaces ws)
-    ∙ ap (λ (l : List (List ℕ)). first ++ behind_spaces l) (sym e)
-
 -- one word more at the end
 pub spaces_push : (ws : List (List ℕ)) (w : List ℕ) → behind_spaces (ws ++ (w ∷ [])) ≡ behind_spaces ws ++ (32 ∷ w)
-spaces_push [] w = ap (λ (l : List ℕ). 32 ∷ l) (append-nil w)
-spaces_push (v ∷ ws) w = ap (λ (l : List ℕ). 32 ∷ (v ++ l)) (spaces_push ws w) ∙ ap (λ (l : List ℕ). 32 ∷ l) (sym (append_assoc v (behind_spaces ws) (32 ∷ w)))
+spaces_push ws w = spaces_append ws (w ∷ []) ∙ ap (λ (l : List ℕ). behind_spaces ws ++ (32 ∷ l)) (append-nil w)
 
 -- one number more, behind a space
 pub values_more : (ns : List ℕ) (i : ℕ) → i < length ns →

@@ -2,5 +2,4 @@ pub mod Appends
 pub mod Shows
 pub mod Paired
 pub mod Named
-pub mod Stored
 pub mod Runs

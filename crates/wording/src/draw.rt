@@ -7,6 +7,7 @@ use automata::sets::contains;
 use plan::interface::Plan;
 use std::alloc::AllocError;
 
+// Stays: no plainer: `write!` on a `Vec<u8>` answers an `io::Error`, and what appends here an `AllocError`.
 /// The shape of an end, and of any other state.
 fn shape(end: bool) -> &'static [u8]
     ensures { result.now ≡ shape_text end }
@@ -39,6 +40,8 @@ fn push_start(out: &mut Vec<u8>, state: u8, start: bool) -> Result<(), AllocErro
     push_text(out, b";")
 }
 
+// Stays: `command < 26` in two contracts here and one in show.rt. Plans take and answer a command as a `u8`, as `targets`
+// does, so a type of its own would be made from one and turned back to it at each call.
 /// Appends the arrow with the letter of its command, if it is there.
 fn push_arrow(
     out: &mut Vec<u8>,
@@ -60,6 +63,7 @@ fn push_arrow(
 }
 
 /// Appends the arrows from the state under the command to the targets.
+#[tactic(auto, unfolding(crate::specs::Show::each))]
 fn push_targets(out: &mut Vec<u8>, from: u8, command: u8, targets: u32) -> Result<(), AllocError>
     requires { command < 26 }
     ensures { Appends result out.old.items out.new.items (targets_text from command targets) }
@@ -81,6 +85,7 @@ fn push_arrows<P: Plan>(out: &mut Vec<u8>, plan: &P, state: u8) -> Result<(), Al
 }
 
 /// Appends the state, whether it is a start, and the arrows from it.
+#[tactic(auto, unfolding(crate::specs::Draw::state_text))]
 fn push_state<P: Plan>(out: &mut Vec<u8>, plan: &P, state: u8) -> Result<(), AllocError>
     ensures { Appends result out.old.items out.new.items (state_text (P.Plan.meaning plan.now) state) }
 {
@@ -91,6 +96,7 @@ fn push_state<P: Plan>(out: &mut Vec<u8>, plan: &P, state: u8) -> Result<(), All
 
 /// Appends the plan in the language of Graphviz, for a picture: a circle for each state, a double one for an end, an arrow
 /// from nowhere to each start, and an arrow with its letter for each of the plan's.
+#[tactic(auto, unfolding(crate::specs::Show::each))]
 pub fn draw<P: Plan>(out: &mut Vec<u8>, plan: &P) -> Result<(), AllocError>
     ensures { Appends result out.old.items out.new.items (graph_text (P.Plan.meaning plan.now)) }
 {

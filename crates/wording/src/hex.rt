@@ -3,6 +3,7 @@ ghost use Rattle.script.specs.Hex.{unhexed, hex_letter, hexed};
 
 use std::alloc::AllocError;
 
+// Stays: `char::from_digit` answers an `Option<char>`, which would have to be unwrapped and cast.
 /// The hexadecimal digit for a value below 16.
 fn letter(n: u8) -> u8
     requires { n < 16 }

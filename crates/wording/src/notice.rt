@@ -5,7 +5,7 @@ use crate::text::push_text;
 use std::alloc::AllocError;
 
 /// What is answered about searches where there is no verdict to tell.
-#[derive(Clone, Copy)]
+#[derive(Clone, Copy, Debug, PartialEq, Eq)]
 pub enum Notice {
     /// There was no search yet.
     NoSearch,

@@ -6,17 +6,17 @@ use crate::text::{push_byte, push_number, push_text};
 use std::alloc::AllocError;
 
 /// Appends the pair behind a space.
-fn push_pair(out: &mut Vec<u8>, p: u8, r: u8) -> Result<(), AllocError>
+fn push_pair(out: &mut Vec<u8>, p: usize, r: u8) -> Result<(), AllocError>
     ensures { Appends result out.old.items out.new.items (behind_spaces (pair_text p r ∷ [])) }
 {
     push_byte(out, b' ')?;
-    push_number(out, p as usize)?;
+    push_number(out, p)?;
     push_byte(out, b'<')?;
     push_number(out, r as usize)
 }
 
 /// Appends the pairs of a row, each behind a space.
-fn push_row(out: &mut Vec<u8>, p: u8, row: u64) -> Result<(), AllocError>
+fn push_row(out: &mut Vec<u8>, p: usize, row: u64) -> Result<(), AllocError>
     ensures { Appends result out.old.items out.new.items (behind_spaces (row_pairs p row)) }
 {
     for r in 0..64u8 {
@@ -28,11 +28,12 @@ fn push_row(out: &mut Vec<u8>, p: u8, row: u64) -> Result<(), AllocError>
 }
 
 /// Appends the pairs of all rows, each behind a space.
+#[tactic(auto, unfolding(crate::specs::Show::each))]
 fn push_rows(out: &mut Vec<u8>, rows: &[u64; 64]) -> Result<(), AllocError>
     ensures { Appends result out.old.items out.new.items (behind_spaces (all_pairs rows.now)) }
 {
-    for p in 0..64u8 {
-        push_row(out, p, rows[p as usize])?;
+    for (p, row) in rows.iter().enumerate() {
+        push_row(out, p, *row)?;
     }
     Ok(())
 }

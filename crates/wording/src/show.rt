@@ -18,6 +18,7 @@ fn push_next(out: &mut Vec<u8>, n: usize, first: bool) -> Result<(), AllocError>
     push_number(out, n)
 }
 
+// Stays: no plainer: without the flag the first member is written apart, and its number stands in two places.
 /// Appends the members of the set, with single spaces between them.
 fn push_members(out: &mut Vec<u8>, set: u32) -> Result<(), AllocError>
     ensures { Appends result out.old.items out.new.items (spaced (map numeral (members 32 set))) }
@@ -50,6 +51,7 @@ pub(crate) fn push_named_set(out: &mut Vec<u8>, name: &[u8], set: u32) -> Result
 }
 
 /// Appends the count of states, the starts and the ends.
+#[tactic(auto, unfolding(crate::specs::Show::head_text))]
 fn push_head(out: &mut Vec<u8>, count: u8, starts: u32, ends: u32) -> Result<(), AllocError>
     ensures { Appends result out.old.items out.new.items (head_text count starts ends) }
 {
@@ -59,6 +61,7 @@ fn push_head(out: &mut Vec<u8>, count: u8, starts: u32, ends: u32) -> Result<(),
     push_named_set(out, b", ends ", ends)
 }
 
+// Stays: `command < 26`, as in draw.rt.
 /// Appends a line with the targets of the state under the command, if there are any.
 fn push_arrows(out: &mut Vec<u8>, state: u8, command: u8, targets: u32) -> Result<(), AllocError>
     requires { command < 26 }
@@ -74,6 +77,7 @@ fn push_arrows(out: &mut Vec<u8>, state: u8, command: u8, targets: u32) -> Resul
 }
 
 /// Appends the arrows of the state, a line for each command that has any.
+#[tactic(auto, unfolding(crate::specs::Show::each))]
 fn push_state<P: Plan>(out: &mut Vec<u8>, plan: &P, state: u8) -> Result<(), AllocError>
     ensures { Appends result out.old.items out.new.items (state_text (P.Plan.meaning plan.now) state) }
 {
@@ -85,6 +89,7 @@ fn push_state<P: Plan>(out: &mut Vec<u8>, plan: &P, state: u8) -> Result<(), All
 
 /// Appends the plan for a person to read: the count of states, the starts and the ends, and then a line for each state
 /// and command that has targets.
+#[tactic(auto, unfolding(crate::specs::Show::each))]
 pub fn show<P: Plan>(out: &mut Vec<u8>, plan: &P) -> Result<(), AllocError>
     ensures { Appends result out.old.items out.new.items (plan_text (P.Plan.meaning plan.now)) }
 {

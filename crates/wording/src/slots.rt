@@ -9,7 +9,7 @@ use std::alloc::AllocError;
 use walk::slot::{Mark, Slot};
 
 /// What a search stores, in words.
-trait Item {
+pub trait Item {
     ghost text: { Self → List ℕ };
 
     /// Appends the item behind a space.
@@ -34,6 +34,7 @@ impl Item for u32 {
     }
 }
 
+// Stays: no plainer: `write!` on a `Vec<u8>` answers an `io::Error`, and what appends here an `AllocError`.
 /// What has become of an item.
 fn mark_word(mark: Mark) -> &'static [u8]
     ensures { result.now ≡ mark_text mark }
@@ -45,20 +46,14 @@ fn mark_word(mark: Mark) -> &'static [u8]
     }
 }
 
-/// Appends how an item was reached, and what has become of it.
-fn push_origin(
-    out: &mut Vec<u8>,
-    depth: u16,
-    parent: u16,
-    command: u8,
-    mark: Mark,
-) -> Result<(), AllocError>
-    ensures { Appends result out.old.items out.new.items (origin_text depth parent command mark) }
+/// Appends how the slot's item was reached, and what has become of it.
+fn push_origin<I>(out: &mut Vec<u8>, slot: &Slot<I>) -> Result<(), AllocError>
+    ensures { Appends result out.old.items out.new.items (origin_text slot.now.depth slot.now.parent slot.now.command slot.now.mark) }
 {
-    push_named_number(out, b" depth ", depth as usize)?;
-    push_named_number(out, b" parent ", parent as usize)?;
-    push_named_number(out, b" command ", command as usize)?;
-    push_text(out, mark_word(mark))
+    push_named_number(out, b" depth ", slot.depth as usize)?;
+    push_named_number(out, b" parent ", slot.parent as usize)?;
+    push_named_number(out, b" command ", slot.command as usize)?;
+    push_text(out, mark_word(slot.mark))
 }
 
 /// Appends the slot on a line of its own: its number, its item, and how it was reached.
@@ -67,11 +62,14 @@ fn push_slot<I: Item>(out: &mut Vec<u8>, number: usize, slot: &Slot<I>) -> Resul
 {
     push_named_number(out, b"\n  ", number)?;
     slot.item.push(out)?;
-    push_origin(out, slot.depth, slot.parent, slot.command, slot.mark)
+    push_origin(out, slot)
 }
 
-/// Appends how many slots there are, and a line for each.
-fn push_slots<I: Item>(out: &mut Vec<u8>, slots: &[Slot<I>]) -> Result<(), AllocError>
+/// Appends how many slots there are, and a line for each, as `1 stored` and the line
+/// `  0 pair 0 {1 2} depth 0 parent 65535 command 255 taken` of a comparison, or
+/// `  0 set {1 2} depth 0 parent 65535 command 255 waiting` of an opening.
+#[tactic(auto, unfolding(crate::specs::Slots::slots_from))]
+pub fn word_slots<I: Item>(out: &mut Vec<u8>, slots: &[Slot<I>]) -> Result<(), AllocError>
     ensures { Appends result out.old.items out.new.items (slots_text I.Item.text slots.now) }
 {
     push_number(out, slots.len())?;
@@ -80,18 +78,4 @@ fn push_slots<I: Item>(out: &mut Vec<u8>, slots: &[Slot<I>]) -> Result<(), Alloc
         push_slot(out, number, slot)?;
     }
     Ok(())
-}
-
-/// Appends the slots of a comparison, as `1 stored` and the line `  0 pair 0 {1 2} depth 0 parent 65535 command 255 taken`.
-pub fn word_pair_slots(out: &mut Vec<u8>, slots: &[Slot<Pair>]) -> Result<(), AllocError>
-    ensures { Appends result out.old.items out.new.items (slots_text pair_item slots.now) }
-{
-    push_slots(out, slots)
-}
-
-/// Appends the slots of an opening, as `1 stored` and the line `  0 set {1 2} depth 0 parent 65535 command 255 waiting`.
-pub fn word_set_slots(out: &mut Vec<u8>, slots: &[Slot<u32>]) -> Result<(), AllocError>
-    ensures { Appends result out.old.items out.new.items (slots_text set_item slots.now) }
-{
-    push_slots(out, slots)
 }

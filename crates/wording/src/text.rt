@@ -2,9 +2,11 @@ ghost use Rattle.std.specs.Prelude.{◌≡◌, [], ◌∷◌, take};
 ghost use Rattle.script.specs.Words.{words};
 ghost use Rattle.wording.specs.Texts.{Appends, numeral, named_number, behind_spaces};
 
-use script::words::first_word;
+use itoa::Buffer;
+use script::words::{Words, first_word};
 use std::alloc::AllocError;
 
+// Stays: answers are built in a `Vec<u8>`, not a `String`, since a script's words are any bytes.
 /// Appends one byte.
 pub(crate) fn push_byte(out: &mut Vec<u8>, b: u8) -> Result<(), AllocError>
     ensures { Appends result out.old.items out.new.items (b ∷ []) }
@@ -24,11 +26,7 @@ pub(crate) fn push_text(out: &mut Vec<u8>, text: &[u8]) -> Result<(), AllocError
 pub(crate) fn push_number(out: &mut Vec<u8>, n: usize) -> Result<(), AllocError>
     ensures { Appends result out.old.items out.new.items (numeral n) }
 {
-    if n < 10 {
-        return push_byte(out, b'0' + n as u8);
-    }
-    push_number(out, n / 10)?;
-    push_byte(out, b'0' + (n % 10) as u8)
+    push_text(out, Buffer::new().format(n).as_bytes())
 }
 
 /// Appends the name and the number.
@@ -54,11 +52,9 @@ pub(crate) fn push_first_word(out: &mut Vec<u8>, line: &[u8]) -> Result<(), Allo
 pub(crate) fn push_words(out: &mut Vec<u8>, line: &[u8]) -> Result<(), AllocError>
     ensures { Appends result out.old.items out.new.items (behind_spaces (words line.now)) }
 {
-    let mut left = line;
-    while let Some((word, rest)) = first_word(left) {
+    for word in Words::new(line) {
         push_byte(out, b' ')?;
         push_text(out, word)?;
-        left = rest;
     }
     Ok(())
 }

@@ -4,15 +4,17 @@ ghost use Rattle.wording.specs.Verdicts.{verdict_text, letter as letter_of, run_
 
 use crate::text::{push_byte, push_named_number, push_text};
 use std::alloc::AllocError;
+use walk::verdict::{Numbers, Verdict};
 
+// Stays: no plainer: `write!` on a `Vec<u8>` answers an `io::Error`, and what appends here an `AllocError`.
 /// The verdict by its number: 0 passed, 1 failed, and full for any other.
 fn verdict_word(verdict: u8) -> &'static [u8]
     ensures { result.now ≡ verdict_text verdict }
 {
-    match verdict {
-        0 => b"passed",
-        1 => b"failed",
-        _ => b"full",
+    match Verdict::from(verdict) {
+        Verdict::Passed => b"passed",
+        Verdict::Failed => b"failed",
+        Verdict::Full => b"full",
     }
 }
 
@@ -69,7 +71,7 @@ fn push_told_run(out: &mut Vec<u8>, run: &[u8]) -> Result<(), AllocError>
 fn push_found(out: &mut Vec<u8>, verdict: u8, run: &[u8]) -> Result<(), AllocError>
     ensures { Appends result out.old.items out.new.items (found_text verdict run.now) }
 {
-    if verdict != 1 {
+    if Verdict::from(verdict) != Verdict::Failed {
         return Ok(());
     }
     push_text(out, b", run ")?;
@@ -78,11 +80,8 @@ fn push_found(out: &mut Vec<u8>, verdict: u8, run: &[u8]) -> Result<(), AllocErr
 
 /// Appends what a search answered: the verdict, the length of the run and the number of stored items; and for failed
 /// the run, which stands in front in its buffer.
-pub fn word_search(
-    out: &mut Vec<u8>,
-    answer: (u8, usize, usize),
-    run: &[u8],
-) -> Result<(), AllocError>
+#[tactic(auto, unfolding(crate::specs::Verdicts::search_text))]
+pub fn word_search(out: &mut Vec<u8>, answer: Numbers, run: &[u8]) -> Result<(), AllocError>
     ensures { Appends result out.old.items out.new.items (search_text answer run.now) }
 {
     let (verdict, length, stored) = answer;
@@ -92,26 +91,23 @@ pub fn word_search(
     push_found(out, verdict, &run[0..length.min(run.len())])
 }
 
+// Stays: no plainer: `write!` on a `Vec<u8>` answers an `io::Error`, and what appends here an `AllocError`.
+// A short and a long text of a verdict: each is the text of a definition of its own.
 /// The verdict of a comparison in words.
 fn meaning(verdict: u8) -> &'static [u8]
     ensures { result.now ≡ meaning_text verdict }
 {
-    if verdict == 0 {
-        b"passed: the rule permits every run of the programme"
-    } else if verdict == 1 {
-        b"failed: the programme permits a run that the rule does not"
-    } else {
-        b"full: more slots are needed"
+    match Verdict::from(verdict) {
+        Verdict::Passed => b"passed: the rule permits every run of the programme",
+        Verdict::Failed => b"failed: the programme permits a run that the rule does not",
+        Verdict::Full => b"full: more slots are needed",
     }
 }
 
 /// Appends what a comparison found, for a person to read: the verdict in words, and after failed the run, which stands in
 /// front in its buffer.
-pub fn word_finding(
-    out: &mut Vec<u8>,
-    answer: (u8, usize, usize),
-    run: &[u8],
-) -> Result<(), AllocError>
+#[tactic(auto, unfolding(crate::specs::Verdicts::finding_text))]
+pub fn word_finding(out: &mut Vec<u8>, answer: Numbers, run: &[u8]) -> Result<(), AllocError>
     ensures { Appends result out.old.items out.new.items (finding_text answer run.now) }
 {
     push_text(out, meaning(answer.0))?;

@@ -1,27 +1,35 @@
-use Rattle.std.proofs.Common.{refl}
+use Rattle.std.proofs.Common.{refl, rules}
 use Rattle.automata.specs.Sets.{has}
-use Rattle.automata.specs.Relations.{total, listed}
+use Rattle.automata.specs.Relations.{bits, total, listed}
+use Rattle.automata.specs.Refining.{candidate}
 use Rattle.automata.proofs.Ranked.{rank_start, rank_step, rank_less, rank_end}
+use Rattle.order.proofs.AsOrder.{small_candidate, same_small}
 use Rattle.order.proofs.greatest.simulation.Goals as goal
 
-pub loop-waiting-init : goal.loop-waiting-init
-loop-waiting-init c =
-    rank_start (has c.args.states) (listed c.args.ends c.args.targets.now) c.requires c.sources-sources.result (c.sources-sources.ensures c.args.ends)
-    c.candidates-rows.result c.args.states c.candidates-rows.ensures.size c.candidates-rows.ensures.pairs (λ k. refl)
+pub loop-t-init : goal.loop-t-init
+loop-t-init c =
+    let s = c.args.sides.now in
+    rank_start (has s.states) (listed s.ends s.targets) c.requires c.sources-sources.result (c.sources-sources.ensures s.ends)
+    c.rows_by-rows.result s.states c.rows_by-rows.ensures.size
+    (same_small (bits c.rows_by-rows.result) (candidate (has s.states) s.ends) c.rows_by-rows.ensures.small (small_candidate (has s.states) c.requires.small s.ends)
+    (λ p r lp lr. let x = c.rows_by-rows.ensures.pairs p r lp lr in search rules))
+    (λ k. refl)
 
-pub loop-waiting-smaller : goal.loop-waiting-smaller
-loop-waiting-smaller c =
-    rank_less (total c.loop-waiting.rows) (total c.settle-changed.new.rows) c.loop-waiting.waiting c.without.result c.settle-changed.result
-    c.settle-changed.ensures.less (c.without.ensures.less c.highest-t.ensures.there) c.without.type_inv c.settle-changed.type_inv
+pub loop-t-smaller : goal.loop-t-smaller
+loop-t-smaller c =
+    rank_less (total c.loop-t.rows) (total c.settle-changed.new.rows) c.loop-t.waiting c.without.result c.settle-changed.result
+    c.settle-changed.ensures.less (c.without.ensures.less c.in-Some.ensures.there) c.without.type_inv c.settle-changed.type_inv
 
-pub loop-waiting-preserved : goal.loop-waiting-preserved
-loop-waiting-preserved c =
-    rank_step (has c.args.states) (listed c.args.ends c.args.targets.now) c.requires c.sources-sources.result (c.sources-sources.ensures c.args.ends)
-    c.loop-waiting.rows c.settle-changed.new.rows c.loop-waiting.waiting c.highest-t.result c.without.result c.settle-changed.result
-    c.loop-waiting.invariant c.highest-t.ensures.within c.without.ensures.others c.settle-changed.array_long
+pub loop-t-preserved : goal.loop-t-preserved
+loop-t-preserved c =
+    let s = c.args.sides.now in
+    rank_step (has s.states) (listed s.ends s.targets) c.requires c.sources-sources.result (c.sources-sources.ensures s.ends)
+    c.loop-t.rows c.settle-changed.new.rows c.loop-t.waiting c.in-Some.t c.without.result c.settle-changed.result
+    c.loop-t.invariant c.in-Some.ensures.within c.without.ensures.others c.settle-changed.array_long
     c.settle-changed.ensures.pairs c.settle-changed.ensures.kept
 
 pub returns : goal.returns
 returns c =
-    rank_end (has c.args.states) (listed c.args.ends c.args.targets.now) c.requires c.sources-sources.result (c.sources-sources.ensures c.args.ends)
-    c.loop-waiting.rows c.loop-waiting.waiting c.loop-waiting.invariant c.loop-waiting-test.false
+    let s = c.args.sides.now in
+    rank_end (has s.states) (listed s.ends s.targets) c.requires c.sources-sources.result (c.sources-sources.ensures s.ends)
+    c.loop-t.rows c.loop-t.waiting c.loop-t.invariant c.in_default.ensures

@@ -1,68 +1,77 @@
-use Rattle.std.proofs.Common.{not, sym, refl, ◌∙◌, arith, below_more}
+use Rattle.std.proofs.Common.{◌<◌, ◌^◌, get_or, sym, refl, ◌∙◌, arith, below_more}
 use Rattle.std.proofs.lemmas.Bool.{both_ways, and_parts}
-use Rattle.automata.specs.Relations.{bits}
-use Rattle.automata.proofs.Elements.{unless_lost}
-use Rattle.automata.proofs.Matched.{breaks_within, matched_clear, keeps_arrows}
-use Rattle.order.proofs.Answered.{none_cases}
+use Rattle.automata.proofs.Bits.{has_and}
+use Rattle.automata.proofs.Matched.{arrow_row, row_arrow, breaks_within, keeps_arrows}
+use Rattle.order.proofs.Left.{left_clear}
+use Rattle.order.proofs.Passed.{passed_step, passed_before, passed_end}
 use Rattle.order.proofs.laws.arrow_not_matched.Goals as goal
 
-pub loop-r-preserved-then-not-is_lost : goal.loop-r-preserved-then-not-is_lost
-loop-r-preserved-then-not-is_lost c = (
-  below_more _ _ c.loop-r.invariant.0
-      (λ d t b.
-      let x = unless_lost (bits c.args.rows.now c.law.p c.loop-r.r) (bits c.matched-left.result c.law.p c.loop-r.r) (sym c.is_lost.ensures ∙ c.if-not-is_lost.true) b.0 in
-      matched_clear c.args.targets.now c.args.rows.now c.told-targets (λ k. c.fits-targets k) c.told-rows (λ k. c.fits-rows k) 0
-      c.sources-sources.result (c.sources-sources.ensures 0) c.law.p c.loop-r.r ((c.matched-left.ensures c.law.p c.loop-r.r).0 x).1 d t b),
-  c.loop-r.invariant.1,
-)
-
 pub loop-target-preserved : goal.loop-target-preserved
-loop-target-preserved c =
-    (below_more _ _ c.loop-target.invariant.0 (λ b. both_ways _ c.if-is_unmatched.false (c.is_unmatched.ensures.1 (b.1, b.2))), c.loop-target.invariant.1)
+loop-target-preserved c = (
+  passed_step _ _ c.loop-target.target-iterator.0 c.in-Some-target.target c.next-in-loop-target.new.self.0 c.loop-target.invariant.0 c.in-Some-target.ensures.steps.1
+      (λ b. both_ways _ c.if-are_disjoint.false
+      (c.are_disjoint.ensures.1 (λ u a. b.2 u (row_arrow c.args.targets.now 0 c.in-Some.r c.loop-command.command u c.loop-command-test.true a)))),
+  c.loop-target.invariant.1,
+)
 
 pub loop-command-preserved : goal.loop-command-preserved
 loop-command-preserved c = (
   below_more _ _ c.loop-command.invariant.0
-      (λ t b.
-      let w = breaks_within c.args.targets.now c.args.rows.now c.told-targets (λ k. c.fits-targets k) c.told-rows (λ k. c.fits-rows k) 0 c.law.p c.loop-r.r c.loop-command.command t b in
-      c.loop-target.invariant.0 t (omega arith) b),
+      (passed_end _ _ c.loop-target.target-iterator.0 c.loop-target.invariant.0 c.in-None-target.ensures.steps.0
+      (λ t n b. both_ways _ n (arrow_row c.args.targets.now 0 c.law.p c.loop-command.command t c.loop-command-test.true b.1))),
   c.loop-target.invariant.1,
 )
 
 pub loop-r-preserved : goal.loop-r-preserved
 loop-r-preserved c = (
-  below_more _ _ c.loop-r.invariant.0
+  passed_step _ _ c.loop-r.r-iterator.0 c.in-Some.r c.next.new.self.0 c.loop-r.invariant.0 c.in-Some.ensures.steps.1
       (λ d t b.
-      let w = breaks_within c.args.targets.now c.args.rows.now c.told-targets (λ k. c.fits-targets k) c.told-rows (λ k. c.fits-rows k) 0 c.law.p c.loop-r.r d t b in
+      let w = breaks_within c.args.targets.now c.args.rows.now c.told-targets (λ k. c.fits-targets k) c.told-rows (λ k. c.fits-rows k) 0 c.law.p c.in-Some.r d t b in
       c.loop-command.invariant.0 d (omega arith) t b),
   c.loop-command.invariant.1,
 )
 
 pub law-preserved : goal.law-preserved
-law-preserved c = (
-  below_more _ _ c.law.invariant.0
-      (λ r d t b.
-      let w = breaks_within c.args.targets.now c.args.rows.now c.told-targets (λ k. c.fits-targets k) c.told-rows (λ k. c.fits-rows k) 0 c.law.p r d t b in
-      c.loop-r.invariant.0 r (omega arith) d t b),
-  c.loop-r.invariant.1,
-)
+law-preserved c =
+    let fits : get_or c.matched-left.result c.law.p 0 < 2 ^ 64 = omega arith in (
+      below_more _ _ c.law.invariant.0
+          (passed_end _ _ c.loop-r.r-iterator.0 c.loop-r.invariant.0 c.in-None.ensures.steps.0
+          (λ r n. left_clear c.args.targets.now c.args.rows.now c.matched-left.result c.sources-sources.result c.told-targets (λ k. c.fits-targets k) c.told-rows (λ k. c.fits-rows k)
+          (c.sources-sources.ensures 0) c.matched-left.ensures c.law.p r fits n)),
+      c.loop-r.invariant.1,
+    )
 
 pub returns-after-law : goal.returns-after-law
 returns-after-law c =
-    none_cases _ _ _ c.law.invariant.1
+    rw c.law.invariant.1
     (keeps_arrows c.args.targets.now c.args.rows.now (λ k. c.fits-rows k) 0
     (λ p r d t b.
     let w = breaks_within c.args.targets.now c.args.rows.now c.told-targets (λ k. c.fits-targets k) c.told-rows (λ k. c.fits-rows k) 0 p r d t b in
     c.law.invariant.0 p (omega arith) r d t b))
 
-pub returns-then-is_unmatched : goal.returns-then-is_unmatched
-returns-then-is_unmatched c =
-    let b = c.is_unmatched.ensures.0 c.if-is_unmatched.true in
-    let x = and_parts (bits c.args.rows.now c.law.p c.loop-r.r) (not (bits c.matched-left.result c.law.p c.loop-r.r)) (sym c.is_lost.ensures ∙ c.if-not-is_lost.false) in (
+pub returns-then-are_disjoint : goal.returns-then-are_disjoint
+returns-then-are_disjoint c =
+    let fits : get_or c.matched-left.result c.law.p 0 < 2 ^ 64 = omega arith in
+    let x = c.in-Some.ensures.steps.0 in
+    let y = c.in-Some-target.ensures.steps.0 in
+    let lc = c.loop-command-test.true in (
       c.law.p,
-      c.loop-r.r,
+      c.in-Some.r,
       c.loop-command.command,
-      c.loop-target.target,
+      c.in-Some-target.target,
       refl,
-      ((x.0, b.0, b.1), c.law.invariant.0, c.loop-r.invariant.0, c.loop-command.invariant.0, c.loop-target.invariant.0),
+      (
+        (
+          (and_parts _ _ (sym (has_and _ _ c.in-Some.r) ∙ c.loop-r.invariant.0.was c.in-Some.r x.there)).0,
+          row_arrow c.args.targets.now 0 c.law.p c.loop-command.command c.in-Some-target.target lc (c.loop-target.invariant.0.was c.in-Some-target.target y.there),
+          λ u a. c.are_disjoint.ensures.0 c.if-are_disjoint.true u (arrow_row c.args.targets.now 0 c.in-Some.r c.loop-command.command u lc a),
+        ),
+        c.law.invariant.0,
+        passed_before _ _ c.loop-r.r-iterator.0 c.in-Some.r c.loop-r.invariant.0 x
+            (λ r n. left_clear c.args.targets.now c.args.rows.now c.matched-left.result c.sources-sources.result c.told-targets (λ k. c.fits-targets k) c.told-rows (λ k. c.fits-rows k)
+            (c.sources-sources.ensures 0) c.matched-left.ensures c.law.p r fits n),
+        c.loop-command.invariant.0,
+        passed_before _ _ c.loop-target.target-iterator.0 c.in-Some-target.target c.loop-target.invariant.0 y
+            (λ t n b. both_ways _ n (arrow_row c.args.targets.now 0 c.law.p c.loop-command.command t lc b.1)),
+      ),
     )

@@ -1,33 +1,25 @@
-use Rattle.std.proofs.Common.{ℕ, [], refl, arith, below_more}
+use Rattle.std.proofs.Common.{refl}
 use Rattle.std.proofs.lemmas.Bool.{both_ways}
-use Rattle.automata.specs.Sets.{has}
-use Rattle.automata.specs.Relations.{bits, listed}
-use Rattle.automata.proofs.Elements.{zero_none, bits_within}
-use Rattle.automata.proofs.Offended.{keeps_ends}
-use Rattle.order.proofs.Answered.{none_cases}
+use Rattle.automata.proofs.Elements.{has_minus, zero_none}
+use Rattle.order.proofs.Passed.{passed_step, passed_before}
 use Rattle.order.proofs.laws.end_not_kept.Goals as goal
 
-pub law-preserved : goal.law-preserved
-law-preserved c = (
-  below_more _ _ c.law.invariant.0
-      (λ r b. both_ways (has c.stopped-over.result r) (zero_none c.stopped-over.result r c.if-over-ne0.false) ((c.stopped-over.ensures r).1 b)),
-  c.law.invariant.1,
-)
+pub loop-p-preserved : goal.loop-p-preserved
+loop-p-preserved c =
+    passed_step _ c.args.ends c.loop-p.p-iterator.0 c.in-Some.p c.next.new.self.0 c.loop-p.invariant c.in-Some.ensures.steps.1
+    (λ r b. both_ways _ (zero_none _ r c.in_default.ensures) ((has_minus _ _ r (c.fits-rows c.in-Some.p) c.ranges.ends.fits).1 (b.0, b.2)))
 
-pub returns-then-over-ne0 : goal.returns-then-over-ne0
-returns-then-over-ne0 c = (
-  c.law.p,
-  c.lowest.result,
-  refl,
-  (
-    (c.stopped-over.ensures c.lowest.result).0 c.lowest.ensures.there,
-    c.law.invariant.0,
-    λ k l b. both_ways (has c.stopped-over.result k) (c.lowest.ensures.least k l) ((c.stopped-over.ensures k).1 b),
-  ),
-)
-
-pub returns-after-law : goal.returns-after-law
-returns-after-law c =
-    none_cases _ _ _ c.law.invariant.1
-    (keeps_ends (λ (k : ℕ). has 0 k) (listed c.args.ends []) (bits c.args.rows.now)
-    (λ p r b. let l = bits_within c.args.rows.now c.told-rows (λ k. c.fits-rows k) p r b.0 in c.law.invariant.0 p (omega arith) r b))
+pub returns-in-Some-lowest : goal.returns-in-Some-lowest
+returns-in-Some-lowest c =
+    let x = c.in-Some.ensures.steps.0 in
+    let y = c.in-Some-lowest.ensures in
+    let m = (has_minus _ _ c.in-Some-lowest.r (c.fits-rows c.in-Some.p) c.ranges.ends.fits).0 y.there in (
+      c.in-Some.p,
+      c.in-Some-lowest.r,
+      refl,
+      (
+        (m.0, c.loop-p.invariant.was c.in-Some.p x.there, m.1),
+        passed_before _ c.args.ends c.loop-p.p-iterator.0 c.in-Some.p c.loop-p.invariant x (λ k n r b. both_ways _ n b.1),
+        λ k l b. both_ways _ (y.least k l) ((has_minus _ _ k (c.fits-rows c.in-Some.p) c.ranges.ends.fits).1 (b.0, b.2)),
+      ),
+    )

@@ -1,42 +1,27 @@
-use Rattle.std.proofs.Common.{ℕ, [], refl, arith, below_more}
+use Rattle.std.proofs.Common.{get_or, refl}
 use Rattle.std.proofs.lemmas.Bool.{both_ways}
-use Rattle.automata.specs.Sets.{has}
-use Rattle.automata.specs.Relations.{bits, listed}
-use Rattle.automata.proofs.Elements.{zero_none, bits_within}
-use Rattle.automata.proofs.Offended.{keeps_transitive}
-use Rattle.order.proofs.Answered.{none_cases}
+use Rattle.automata.proofs.Elements.{has_minus, zero_none}
+use Rattle.order.proofs.Passed.{passed_step, passed_before}
 use Rattle.order.proofs.laws.not_transitive.Goals as goal
 
 pub loop-q-preserved : goal.loop-q-preserved
-loop-q-preserved c = (
-  below_more _ _ c.loop-q.invariant.0
-      (λ r b. both_ways (has c.skipped-over.result r) (zero_none c.skipped-over.result r c.if-over-ne0.false) ((c.skipped-over.ensures r).1 b)),
-  c.loop-q.invariant.1,
-)
+loop-q-preserved c =
+    passed_step _ (get_or c.args.rows.now c.loop-p.p 0) c.loop-q.q-iterator.0 c.in-Some.q c.next.new.self.0 c.loop-q.invariant c.in-Some.ensures.steps.1
+    (λ r b. both_ways _ (zero_none _ r c.in_default.ensures) ((has_minus _ _ r (c.fits-rows c.in-Some.q) (c.fits-rows c.loop-p.p)).1 (b.1, b.2)))
 
-pub law-preserved : goal.law-preserved
-law-preserved c = (
-  below_more _ _ c.law.invariant.0
-      (λ q r b. let l = bits_within c.args.rows.now c.told-rows (λ k. c.fits-rows k) c.law.p q b.0 in c.loop-q.invariant.0 q (omega arith) r b),
-  c.loop-q.invariant.1,
-)
-
-pub returns-then-over-ne0 : goal.returns-then-over-ne0
-returns-then-over-ne0 c = (
-  c.law.p,
-  c.loop-q.q,
-  c.lowest.result,
-  refl,
-  (
-    (c.skipped-over.ensures c.lowest.result).0 c.lowest.ensures.there,
-    c.law.invariant.0,
-    c.loop-q.invariant.0,
-    λ k l b. both_ways (has c.skipped-over.result k) (c.lowest.ensures.least k l) ((c.skipped-over.ensures k).1 b),
-  ),
-)
-
-pub returns-after-law : goal.returns-after-law
-returns-after-law c =
-    none_cases _ _ _ c.law.invariant.1
-    (keeps_transitive (λ (k : ℕ). has 0 k) (listed 0 []) (bits c.args.rows.now)
-    (λ p q r b. let l = bits_within c.args.rows.now c.told-rows (λ k. c.fits-rows k) p q b.0 in c.law.invariant.0 p (omega arith) q r b))
+pub returns-in-Some-lowest : goal.returns-in-Some-lowest
+returns-in-Some-lowest c =
+    let x = c.in-Some.ensures.steps.0 in
+    let y = c.in-Some-lowest.ensures in
+    let m = (has_minus _ _ c.in-Some-lowest.r (c.fits-rows c.in-Some.q) (c.fits-rows c.loop-p.p)).0 y.there in (
+      c.loop-p.p,
+      c.in-Some.q,
+      c.in-Some-lowest.r,
+      refl,
+      (
+        (c.loop-q.invariant.was c.in-Some.q x.there, m.0, m.1),
+        c.loop-p.invariant,
+        passed_before _ (get_or c.args.rows.now c.loop-p.p 0) c.loop-q.q-iterator.0 c.in-Some.q c.loop-q.invariant x (λ k n r b. both_ways _ n b.0),
+        λ k l b. both_ways _ (y.least k l) ((has_minus _ _ k (c.fits-rows c.in-Some.q) (c.fits-rows c.loop-p.p)).1 (b.1, b.2)),
+      ),
+    )

@@ -1,13 +1,13 @@
-use Rattle.automata.proofs.Narrowed.{ahead_start, ahead_step, ahead_end}
+use Rattle.std.proofs.Common.{refl, arith}
+use Rattle.automata.proofs.Elements.{zero_at}
+use Rattle.automata.proofs.Narrowed.{ahead_start, ahead_step}
 use Rattle.order.proofs.refining.ahead.Goals as goal
 
-pub loop-rest-init : goal.loop-rest-init
-loop-rest-init c = ahead_start c.args.sources.now c.no_numbers-able.result c.args.set c.no_numbers-able.ensures.size c.no_numbers-able.ensures.zeros
+pub loop-u-init : goal.loop-u-init
+loop-u-init c = rw c.into_iter-u-iterator.ensures.into_iter_gives (ahead_start c.args.sources.now _ c.args.set refl (λ k. zero_at 26 k))
 
-pub loop-rest-preserved : goal.loop-rest-preserved
-loop-rest-preserved c =
-    ahead_step c.args.sources.now c.loop-rest.able c.join.new.able c.args.set c.loop-rest.rest c.lowest-u.result c.without-rest.result
-    c.loop-rest.invariant c.lowest-u.ensures.there c.lowest-u.ensures.within c.without-rest.ensures.others c.join.array_long c.join.ensures
-
-pub returns : goal.returns
-returns c = ahead_end c.args.sources.now c.loop-rest.able c.args.set c.loop-rest.rest c.loop-rest.invariant c.loop-rest-test.false
+pub loop-u-preserved : goal.loop-u-preserved
+loop-u-preserved c =
+    let x = c.in-Some.ensures.steps in
+    ahead_step c.args.sources.now c.loop-u.able c.loop-c.joined-items c.args.set c.loop-u.u-iterator.0 c.in-Some.u c.next.new.self.0
+    c.loop-u.invariant x.0.there x.0.within x.1 c.loop-c.invariant.size (λ d l. c.loop-c.invariant.done d (omega arith))

@@ -1,6 +1,5 @@
-use Rattle.std.proofs.Common.{◌≡◌, ℕ, sym, ap, ◌∙◌, arith}
+use Rattle.std.proofs.Common.{ℕ, sym, ap, ◌∙◌}
 use lib.Bits.{bit_or}
-use Rattle.automata.specs.Steps.{onward_from}
 use Rattle.automata.proofs.Steps.{onward_none, onward_more, onward_same}
 use Rattle.plan.proofs.runs.onward.Goals as goal
 use Rattle.plan.proofs.runs.onward.Goals.{then-contains, else-contains}
@@ -17,9 +16,3 @@ loop-s-preserved g c =
           ∙ sym (onward_more A c.args.set c.args.command c.loop-s.s w.targets-reached.result (sym w.if-contains.ensures) w.targets-reached.ensures)
       | else-contains w ↦ w.reached-is ∙ c.loop-s.invariant ∙ sym (onward_same A c.args.set c.args.command c.loop-s.s (sym w.if-contains.ensures))
     ]
-
-pub returns : goal.returns
-returns g c =
-    let A = g.P.Plan.meaning c.args.plan.now in
-    let e : c.loop-s.s ≡ A.count = omega (arith, c.count-s-end.ensures.answer) in
-    c.loop-s.invariant ∙ ap (onward_from A c.args.set c.args.command) e

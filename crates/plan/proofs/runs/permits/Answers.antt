@@ -1,28 +1,19 @@
-use Rattle.std.proofs.Common.{ℕ, sym, ap, ◌∙◌, arith}
-use Rattle.std.proofs.lemmas.Bool.{false≢true}
-use Rattle.automata.specs.Steps.{led_to}
-use Rattle.automata.proofs.Steps.{led_more, led_all, permits_decided, stateless_permits_none}
+use Rattle.std.proofs.Common.{◌≡◌, ℕ, List, [], ◌∷◌, refl, ◌∙◌, rules}
+use Rattle.std.proofs.iter.runs.Made.{chains}
+use Rattle.std.specs.List.{fold}
+use Rattle.automata.specs.Nfa.{Nfa}
+use Rattle.automata.specs.Steps.{onward, led_to}
+use Rattle.automata.proofs.Steps.{permits_decided}
 use Rattle.plan.proofs.runs.permits.Goals as goal
 
-pub returns-then-count-eq0 : goal.returns-then-count-eq0
-returns-then-count-eq0 g c = record {
-  only = λ e. absurd (false≢true e);
-  every = λ p. absurd (stateless_permits_none _ c.count.ensures.proper (omega (arith, c.count.ensures.answer)) c.args.run.now p);
-}
-
-pub loop-command-init : goal.loop-command-init
-loop-command-init g c = ap (λ (x : ℕ). led_to (g.P.Plan.meaning c.args.plan.now) x c.args.run.now) c.starts-reached.ensures
-
-pub loop-command-preserved : goal.loop-command-preserved
-loop-command-preserved g c =
-    led_more (g.P.Plan.meaning c.args.plan.now) c.loop-command.reached c.args.run.now c.loop-command.command-index c.onward-reached.result
-    c.loop-command-test.true c.onward-reached.ensures ∙ c.loop-command.invariant
+-- a run is followed command by command
+folded : (A : Nfa) (w : List ℕ) (x : ℕ) → fold (λ (set command : ℕ). onward A set command) x w ≡ led_to A x w
+folded A [] x = refl
+folded A (c ∷ w) x = folded A w (onward A x c)
 
 pub returns : goal.returns
 returns g c =
     let A = g.P.Plan.meaning c.args.plan.now in
-    let d =
-    permits_decided A c.count.ensures.proper c.args.run.now c.loop-command.reached c.ends.result
-    (sym (led_all A c.loop-command.reached c.args.run.now c.loop-command.command-index c.loop-command-test.false) ∙ c.loop-command.invariant)
-    c.ends.ensures c.ends.type_inv in
+    let e : c.fold-reached.result ≡ fold (λ (set command : ℕ). onward A set command) A.starts c.args.run.now = search (rules, chains) in
+    let d = permits_decided A c.count.ensures.proper c.args.run.now c.fold-reached.result c.ends.result (e ∙ folded A c.args.run.now A.starts) c.ends.ensures c.ends.type_inv in
     record { only = d.0; every = d.1 }

@@ -1,9 +1,7 @@
-use Rattle.std.proofs.Common.{◌≡◌, ◌-◌, ◌≤◌, ◌++◌, length, drop, vec_items}
+use Rattle.std.proofs.Common.{◌≡◌, ◌++◌, vec_items}
+use Rattle.std.specs.Slice.Iter.{chunks_exact_rest, chunks_exact_size}
 use Rattle.script.specs.Hex.{unhexed}
 use Rattle.script.proofs.hex.decode.Given as goal
 
-abbrev pub invariant-loop-i : goal.invariant-loop-i
-invariant-loop-i l = (l.i ≤ length l.word) × (vec_items l.bytes ++ unhexed (drop l.i l.word) ≡ unhexed l.word)
-
-abbrev pub decreases-loop-i : goal.decreases-loop-i
-decreases-loop-i l = length l.word - l.i
+abbrev pub invariant-loop-pair : goal.invariant-loop-pair
+invariant-loop-pair l = (chunks_exact_size l.pair-iterator ≡ 2) × (vec_items l.bytes ++ unhexed (chunks_exact_rest l.pair-iterator) ≡ unhexed l.word)

@@ -1,20 +1,14 @@
-use Rattle.std.proofs.Common.{Bool, ◌&&◌, sym, ap, ◌∙◌}
-use Rattle.std.proofs.lemmas.Bool.{eq-eqb, ne_eqb}
+use Rattle.std.proofs.Common.{Bool, ◌&&◌, ◌||◌, sym, ◌∙◌, ap₂, rules, tests}
+use Rattle.std.specs.Char.{is_ascii_hexdigit}
+use Rattle.std.proofs.lemmas.Bool.{eq-eqb}
+use Rattle.std.proofs.lemmas.Iterator.{YieldsList-from_slice}
+use Rattle.std.proofs.lemmas.Iterator.Search.{all_from_yields_List}
 use Rattle.script.specs.Hex.{hex_digits}
-use Rattle.script.proofs.Hexes.{hex_single, hex_other}
+use Rattle.script.proofs.Hexes.{hex_digits_all}
 use Rattle.script.proofs.hex.is_hex.Goals as goal
-
-pub returns-then-word-eq1 : goal.returns-then-word-eq1
-returns-then-word-eq1 c = sym (hex_single c.args.word.now c.if-word-eq1.true)
 
 pub returns-then-word-eq0 : goal.returns-then-word-eq0
 returns-then-word-eq0 c =
-    c.all_digits.ensures
-    ∙ ap (λ (b : Bool). b && hex_digits c.args.word.now) (sym (eq-eqb _ _ c.if-word-eq0.true))
-    ∙ sym (hex_other c.args.word.now c.if-word-eq1.false)
-
-pub returns-else-word-eq0 : goal.returns-else-word-eq0
-returns-else-word-eq0 c =
-    ne_eqb _ _ c.if-word-eq0.false
-    ∙ ap (λ (b : Bool). b && hex_digits c.args.word.now) (sym (ne_eqb _ _ c.if-word-eq0.false))
-    ∙ sym (hex_other c.args.word.now c.if-word-eq1.false)
+    let all = all_from_yields_List is_ascii_hexdigit _ _ _ c.all.ensures.ran (YieldsList-from_slice c.args.word.now cc) (λ x b q k. search (rules, tests)) in
+    all ∙ hex_digits_all c.args.word.now
+    ∙ ap₂ (λ (a b : Bool). a || (b && hex_digits c.args.word.now)) c.if-is_text.ensures (sym (eq-eqb _ _ c.if-word-eq0.true))

@@ -1,15 +1,17 @@
 use Rattle.std.proofs.Common.{arith}
-use Rattle.walk.proofs.Expanding.{sofar_none, sofar_more, sofar_over, sofar_all}
+use Rattle.std.proofs.lemmas.Result.{err_from_is_err_and}
+use Rattle.walk.proofs.Fanning.{expand_none, expand_more, expand_over}
 use Rattle.walk.proofs.offer.expand.Goals as goal
 
 pub loop-command-init : goal.loop-command-init
-loop-command-init g c = sofar_none (g.S.Search.kind c.args.search.now) c.args.usable c.args.at c.args.taken c.args.slots.now c.args.stored (omega arith)
+loop-command-init g c = expand_none (g.S.Search.kind c.args.search.now) c.args.stored.now c.args.at c.args.taken
 
 pub loop-command-preserved : goal.loop-command-preserved
-loop-command-preserved g c = sofar_more (g.S.Search.kind c.args.search.now) c.args.usable c.args.at c.args.taken c.args.slots.now c.args.stored c.loop-command.command c.loop-command.filled c.loop-command.slots c.loop-command.invariant (omega arith) _ c.successors-heads.ensures c.offer_fan-progress.new.slots c.in-Going.more c.in-Going.ensures
+loop-command-preserved g c = expand_more (g.S.Search.kind c.args.search.now) c.args.stored.now c.args.at c.args.taken c.loop-command.command c.loop-command.stored c.offer_fan.new.stored _ c.loop-command.invariant _ c.successors-heads.ensures c.in_ok-offer_fan.ensures
 
-pub returns-in_default : goal.returns-in_default
-returns-in_default g c = sofar_over (g.S.Search.kind c.args.search.now) c.args.usable c.args.at c.args.taken c.args.slots.now c.args.stored c.loop-command.command c.loop-command.filled c.loop-command.slots c.loop-command.invariant (omega arith) _ c.successors-heads.ensures c.offer_fan-progress.new.slots c.offer_fan-progress.result c.in_default.not-Going c.offer_fan-progress.ensures
-
-pub returns : goal.returns
-returns g c = sofar_all (g.S.Search.kind c.args.search.now) c.args.usable c.args.at c.args.taken c.args.slots.now c.args.stored c.loop-command.command c.loop-command.filled c.loop-command.slots c.loop-command.invariant (omega arith)
+pub returns-in_err-offer_fan : goal.returns-in_err-offer_fan
+returns-in_err-offer_fan g c =
+    let p = err_from_is_err_and c.from_residual.result c.from_residual.ensures.1 in
+    rw (p.1, p.2)
+    (expand_over (g.S.Search.kind c.args.search.now) c.args.stored.now c.args.at c.args.taken c.loop-command.command c.offer_fan.new.stored _ (omega arith)
+    (expand_more (g.S.Search.kind c.args.search.now) c.args.stored.now c.args.at c.args.taken c.loop-command.command c.loop-command.stored c.offer_fan.new.stored _ c.loop-command.invariant _ c.successors-heads.ensures c.in_err-offer_fan.ensures))

@@ -1,11 +1,6 @@
-use Rattle.std.proofs.Common.{◌≡◌, ◌≤◌, take, drop}
-use Rattle.walk.proofs.Trails.{trail}
+use Rattle.std.proofs.Common.{◌≡◌, ◌++◌, drop}
+use Rattle.walk.specs.Runs.{run_to, run_of}
 use Rattle.walk.proofs.run.trace.Given as goal
 
 abbrev pub invariant-loop-place : goal.invariant-loop-place
-invariant-loop-place g l =
-    (l.place ≤ l.initial.place)
-    × (trail (take l.stored l.slots) l.place l.parent l.command (drop l.place l.run) ≡ trail (take l.stored l.slots) l.initial.place l.initial.parent l.initial.command (drop l.initial.place l.initial.run))
-
-abbrev pub decreases-loop-place : goal.decreases-loop-place
-decreases-loop-place g l = l.place
+invariant-loop-place g l = run_to l.stored l.place l.parent l.command ++ drop l.place l.run ≡ run_of l.stored l.hit ++ drop l.hit.depth l.fn.run

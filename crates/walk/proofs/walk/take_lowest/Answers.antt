@@ -1,13 +1,18 @@
-use Rattle.std.proofs.Common.{sym}
-use Rattle.walk.proofs.Picking.{found, found_none}
+use Rattle.std.proofs.Common.{◌≡◌, sym, refl, ◌∙◌, rules, tests}
+use Rattle.std.specs.List.{position}
+use Rattle.std.proofs.lemmas.Iterator.{YieldsList-from_slice}
+use Rattle.std.proofs.lemmas.Iterator.Search.{position_from_yields_List}
+use Rattle.walk.proofs.Picking.{waiting, found_in, found_none_in}
 use Rattle.walk.proofs.walk.take_lowest.Goals as goal
 
-pub returns-then-waits : goal.returns-then-waits
-returns-then-waits g c =
-    let f = found c.args.slots.now c.args.stored c.requires c.loop-k.slots c.loop-k.invariant.0 c.loop-k.k c.index-slots-k.result c.index-slots-k-then-waits.result c.index-slots-k-then-waits-2.result c.loop-k-test.true c.loop-k.invariant.1 (sym c.if-waits.ensures) c.index-slots-k-then-waits.is in
-    record { chosen = f.0; marked = f.1 }
+pub returns-in_err-at : goal.returns-in_err-at
+returns-in_err-at g c =
+    let e : c.position.result ≡ position waiting c.filled.result.now = position_from_yields_List waiting _ _ c.position.result c.position.ensures.ran (YieldsList-from_slice c.filled.result.now cc) (λ x b q k. search (rules, tests)) in
+    let f = found_none_in c.args.stored.now (rw c.filled.ensures at (sym e ∙ c.in_err-at.was)) in
+    record { chosen = c.from_residual.ensures ∙ f.0; marked = f.1; lent = refl; count = refl }
 
 pub returns : goal.returns
 returns g c =
-    let f = found_none c.args.slots.now c.args.stored c.requires c.loop-k.slots c.loop-k.invariant.0 c.loop-k.k c.loop-k-test.false c.loop-k.invariant.1 in
-    record { chosen = f.0; marked = f.1 }
+    let e : c.position.result ≡ position waiting c.filled.result.now = position_from_yields_List waiting _ _ c.position.result c.position.ensures.ran (YieldsList-from_slice c.filled.result.now cc) (λ x b q k. search (rules, tests)) in
+    let f = found_in c.args.stored.now c.in_ok-at.at c.index-stored-at.result c.index-stored-at-2.result (rw c.filled.ensures at (sym e ∙ c.in_ok-at.was)) in
+    record { chosen = f.0; marked = f.1; lent = refl; count = refl }

@@ -3,16 +3,8 @@ use Rattle.automata.specs.Nfa.{Nfa}
 use Rattle.wording.specs.Show.{each}
 use Rattle.wording.specs.Draw.{state_text}
 use Rattle.wording.proofs.Appends.{three_call}
-use Rattle.wording.proofs.Shows.{each_from, each_on, each_to}
+use Rattle.wording.proofs.Shows.{each_to}
 use Rattle.wording.proofs.draw.draw.Goals as goal
-
-pub loop-state-init : goal.loop-state-init
-loop-state-init g c = each_from (vec_items c.push_text.new.out) (state_text (g.P.Plan.meaning c.args.plan.now))
-
-pub loop-state-preserved : goal.loop-state-preserved
-loop-state-preserved g c =
-    each_on (vec_items c.push_text.new.out) (vec_items c.loop-state.out) (vec_items c.push_state.new.out) c.loop-state.state (state_text (g.P.Plan.meaning c.args.plan.now))
-    c.loop-state.invariant c.in_ok-push_state.ensures
 
 pub returns : goal.returns
 returns g c =

@@ -1,6 +1,6 @@
-use Rattle.std.proofs.Common.{ℕ, ◌++◌, vec_items, ap, ◌∙◌, arith}
+use Rattle.std.proofs.Common.{ℕ, ◌++◌, vec_items, ap, ◌∙◌}
 use Rattle.wording.specs.Draw.{targets_text}
-use Rattle.wording.proofs.Shows.{each_from, each_on, each_to}
+use Rattle.wording.proofs.Shows.{each_from, each_on}
 use Rattle.wording.proofs.draw.push_arrows.Goals as goal
 
 pub loop-command-init : goal.loop-command-init
@@ -12,9 +12,3 @@ loop-command-preserved g c =
     (λ (k : ℕ). targets_text c.args.state k ((g.P.Plan.meaning c.args.plan.now).targets c.args.state k))
     c.loop-command.invariant
     (c.in_ok-push_targets.ensures ∙ ap (λ (x : ℕ). vec_items c.loop-command.out ++ targets_text c.args.state c.loop-command.command x) c.targets.ensures)
-
-pub returns : goal.returns
-returns g c =
-    each_to (vec_items c.args.out.now) (vec_items c.loop-command.out) c.loop-command.command 26
-    (λ (k : ℕ). targets_text c.args.state k ((g.P.Plan.meaning c.args.plan.now).targets c.args.state k))
-    (omega arith) c.loop-command.invariant

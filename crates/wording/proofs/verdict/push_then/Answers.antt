@@ -1,5 +1,4 @@
-use Rattle.std.proofs.Common.{ℕ, List, [], ◌∷◌, ◌++◌, take, vec_items, codes, ap, ◌∙◌}
-use Rattle.std.proofs.lemmas.List.{take_all}
+use Rattle.std.proofs.Common.{ℕ, List, [], ◌∷◌, ◌++◌, take, vec_items, codes}
 use Rattle.wording.specs.Verdicts.{then_text}
 use Rattle.wording.proofs.Runs.{then_more}
 use Rattle.wording.proofs.Appends.{join, join_as}
@@ -13,8 +12,3 @@ loop-command-preserved c =
     (then_more c.args.run.now c.loop-command.command-index c.letter.result c.loop-command-test.true c.letter.ensures)
     (join (vec_items c.loop-command.out) (vec_items c.push_text.new.out) (vec_items c.push_byte.new.out) (codes ", then ") (c.letter.result ∷ [])
     c.in_ok-push_text.ensures c.in_ok-push_byte.ensures)
-
-pub returns : goal.returns
-returns c =
-    c.loop-command.invariant
-    ∙ ap (λ (w : List ℕ). vec_items c.args.out.now ++ then_text w) (take_all c.loop-command.command-index c.args.run.now c.loop-command-test.false)

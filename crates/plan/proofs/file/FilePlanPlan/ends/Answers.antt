@@ -3,4 +3,4 @@ use Rattle.automata.proofs.Views.{viewed_ends}
 use Rattle.plan.proofs.file.FilePlanPlan.ends.Goals as goal
 
 pub returns : goal.returns
-returns c = c.collect.ensures ∙ viewed_ends c.args.self.now.bytes.now c.count_of-count.result c.front.result c.count_of-count.ensures c.front.ensures.0
+returns c = c.marked.ensures ∙ viewed_ends c.args.self.now.bytes.now

@@ -1,17 +1,11 @@
-use Rattle.std.proofs.Common.{sym, ◌∙◌, arith}
-use Rattle.automata.proofs.Views.{viewed_proper, viewed_count, viewed_targets}
+use Rattle.std.proofs.Common.{◌∙◌, arith}
+use Rattle.automata.proofs.Views.{viewed_count, viewed_targets}
 use Rattle.plan.proofs.file.FilePlanPlan.targets.Goals as goal
 
-pub returns-then-state-count : goal.returns-then-state-count
-returns-then-state-count c =
+pub returns-then-command-lt26 : goal.returns-then-command-lt26
+returns-then-command-lt26 c =
     let f = c.args.self.now.bytes.now in
-    sym ((viewed_proper f).stateless c.args.state c.args.command (omega (arith, viewed_count f, c.count_of-count.ensures)))
-
-pub returns-then-command-ge26 : goal.returns-then-command-ge26
-returns-then-command-ge26 c = sym ((viewed_proper c.args.self.now.bytes.now).unknown c.args.state c.args.command (omega arith))
-
-pub returns : goal.returns
-returns c =
+    let n = c.count-then-command-lt26.ensures.answer ∙ viewed_count f in
     c.collect.ensures
-    ∙ viewed_targets c.args.self.now.bytes.now c.count_of-count.result c.args.state c.args.command c.arrows_of.result.now
-    c.count_of-count.ensures c.if-state-count.false c.if-command-ge26.false c.arrows_of.ensures
+    ∙ viewed_targets f c.count-then-command-lt26.result c.args.state c.args.command c.arrows_of-arrows.result.now n
+    (omega (arith, n, viewed_count f, c.count.ensures.answer, c.if-state-count.true)) c.if-command-lt26.true c.arrows_of-arrows.ensures

@@ -1,9 +1,0 @@
-use Rattle.std.proofs.Common.{sym}
-use Rattle.automata.proofs.Elements.{has_minus}
-use Rattle.order.proofs.laws.skipped.Goals as goal
-
-pub returns-then-contains : goal.returns-then-contains
-returns-then-contains c =
-    λ r.
-    let m = has_minus _ _ r (c.fits-rows c.args.q) (c.fits-rows c.args.p) in
-    ((λ h. let x = m.0 h in (sym c.if-contains.ensures, x.0, x.1)), λ b. m.1 (b.1, b.2))

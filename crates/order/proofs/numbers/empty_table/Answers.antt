@@ -1,6 +1,0 @@
-use Rattle.std.proofs.Common.{refl}
-use Rattle.automata.proofs.Elements.{zero_at}
-use Rattle.order.proofs.numbers.empty_table.Goals as goal
-
-pub returns : goal.returns
-returns c = record { size = refl; zeros = λ k. zero_at 1664 k }

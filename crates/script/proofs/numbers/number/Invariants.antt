@@ -1,8 +1,0 @@
-use Rattle.std.proofs.Common.{◌≡◌, ◌+◌, ◌≤◌, drop}
-use Rattle.script.specs.Numbers.{number_behind, below}
-use Rattle.script.proofs.numbers.number.Given as goal
-
-abbrev pub invariant-loop-b : goal.invariant-loop-b
-invariant-loop-b l =
-    (l.n ≤ l.most)
-    × (below (l.most + 1) (number_behind l.n (drop l.b-index l.word)) ≡ below (l.most + 1) (number_behind 0 l.word))

@@ -1,6 +1,0 @@
-use Rattle.std.proofs.Common.{refl}
-use Rattle.automata.proofs.Arrays.{zero_at}
-use Rattle.script.proofs.pairs.no_pairs.Goals as goal
-
-pub returns : goal.returns
-returns c = record { len = refl; zero = λ k. zero_at 512 k }

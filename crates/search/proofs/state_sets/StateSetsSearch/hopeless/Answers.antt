@@ -1,7 +1,0 @@
-use Rattle.std.proofs.Common.{refl}
-use Rattle.search.specs.StateSets.{sets}
-use Rattle.search.proofs.state_sets.StateSetsSearch.hopeless.Goals as goal
-
-pub returns : goal.returns
-unfolding sets
-returns g c = refl
