@@ -9,7 +9,7 @@ use Rattle.automata.proofs.Fixed.{joined_append}
 use Rattle.automata.proofs.Cuts.{cut_cons, joined_cut}
 
 -- the record at the head, by its own length
-take_own : (m : ℕ) (f : List ℕ) → take m f ≡ take (length (take m f)) f
+pub take_own : (m : ℕ) (f : List ℕ) → take m f ≡ take (length (take m f)) f
 take_own m f =
     ⊎_elim
     (λ h. sym (ap (λ (k : ℕ). take k f) (length-take-le m f (omega arith))))
@@ -23,7 +23,7 @@ drop_own m f =
     (λ h. drop_all m f h ∙ sym (drop_all (length (take m f)) f (omega (arith, length-take m f))))
     (cases_lt m (length f))
 
-cut_step : (f : List ℕ) → 0 < length f → cut f ≡ piece f ∷ cut (drop (length (piece f)) f)
+pub cut_step : (f : List ℕ) → 0 < length f → cut f ≡ piece f ∷ cut (drop (length (piece f)) f)
 cut_step [] h = absurd (omega arith)
 cut_step (b ∷ f) h = cut_cons b f ∙ ap {B = List (List ℕ)} (λ r. piece (b ∷ f) ∷ cut r) (drop_own (len (b ∷ f) + 2) (b ∷ f))
 

@@ -41,11 +41,6 @@ answer_of (Found v l k w) = calls.found (record { numbers = (v, l, k); run = tak
 answer_of Granted = calls.granted
 answer_of (Refused e) = calls.refused (report_of e)
 
--- an answer, or the refusal in its place
-abbrev pub as_told : Result Answer Refusal → calls.Answer
-as_told (Ok a) = answer_of a
-as_told (Err e) = calls.refused (report_of e)
-
 -- behind the run of an answer there are zeros
 abbrev pub Clear : Answer → Type 0
 Clear (Number n) = Unit {0}

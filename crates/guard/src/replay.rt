@@ -4,7 +4,7 @@ ghost use Rattle.calls.specs.Calls as calls;
 ghost use Rattle.walk.specs.Lists.{All};
 ghost use Rattle.calls.specs.Guards.{step, answers as answers_of};
 ghost use Rattle.calls.specs.Promise.{WholePromise};
-ghost use Rattle.guard.specs.Meanings.{guard_of, call_of, answer_of, as_told, Clear, as_found};
+ghost use Rattle.guard.specs.Meanings.{guard_of, call_of, answer_of, Clear, as_done, as_found};
 
 use crate::call::{Answer, Call, SearchTerms};
 use crate::guard::Guard;
@@ -28,90 +28,93 @@ fn zeros() -> [u8; 4096]
     [0; 4096]
 }
 
-/// The answer that tells what a search found, with its run in front of the buffer.
-fn found(answer: Numbers, run: [u8; 4096]) -> Answer
-    ensures answer { answer_of result ≡ as_found (Ok answer) run }
-    ensures clear { drop answer.1 run ≡ replicate (4096 - answer.1) 0 → Clear result }
+/// What a drawing that was done, or its refusal, is as an answer.
+fn done(outcome: Result<(), Refusal>) -> Answer
+    ensures answer { answer_of result ≡ as_done outcome }
+    ensures clear { Clear result }
 {
-    let (verdict, length, stored) = answer;
-    Answer::Found {
-        verdict,
-        length,
-        stored,
-        run,
-    }
+    outcome.map_or_else(Answer::Refused, |()| Answer::Done)
+}
+
+/// What a search found, with its run in front of the buffer, or its refusal, is as an answer.
+fn found(outcome: Result<Numbers, Refusal>, run: [u8; 4096]) -> Answer
+    ensures answer { answer_of result ≡ as_found outcome run }
+    ensures clear { IfOk outcome (λ a. drop a.1 run ≡ replicate (4096 - a.1) 0) → Clear result }
+{
+    outcome.map_or_else(
+        Answer::Refused,
+        |(verdict, length, stored)| Answer::Found {
+            verdict,
+            length,
+            stored,
+            run,
+        },
+    )
 }
 
 impl Guard {
     // Stays: no plainer: one function with a closure would take what either search promises as its premise.
     /// A listed comparison.
-    fn compare_listed(&mut self, terms: &SearchTerms) -> Result<Answer, Refusal>
-        ensures answer { (guard_of self.new, as_told result) ≡ step (guard_of self.old) (calls.Search calls.Compare (rowed terms.now.order) terms.now.slots terms.now.bytes) }
-        ensures clear { IfOk result Clear }
+    fn compare_listed(&mut self, terms: &SearchTerms) -> Answer
+        ensures answer { (guard_of self.new, answer_of result) ≡ step (guard_of self.old) (calls.Search calls.Compare (rowed terms.now.order) terms.now.slots terms.now.bytes) }
+        ensures clear { Clear result }
     {
         let mut store = blank_slots(Pair::default());
         let mut run = zeros();
-        let answer = self.compare(
+        let outcome = self.compare(
             &terms.order,
             &mut store[..usable(terms.slots)],
             &mut run[..usable(terms.bytes)],
-        )?;
-        Ok(found(answer, run))
+        );
+        found(outcome, run)
     }
 
     /// A listed question whether the rule is open.
-    fn open_listed(&self, commands: u8, terms: &SearchTerms) -> Result<Answer, Refusal>
-        ensures answer { (guard_of self.now, as_told result) ≡ step (guard_of self.now) (calls.Search (calls.Open commands) (rowed terms.now.order) terms.now.slots terms.now.bytes) }
-        ensures clear { IfOk result Clear }
+    fn open_listed(&self, commands: u8, terms: &SearchTerms) -> Answer
+        ensures answer { (guard_of self.now, answer_of result) ≡ step (guard_of self.now) (calls.Search (calls.Open commands) (rowed terms.now.order) terms.now.slots terms.now.bytes) }
+        ensures clear { Clear result }
     {
         let mut store = blank_slots(0u32);
         let mut run = zeros();
-        let answer = self.open(
+        let outcome = self.open(
             commands,
             &terms.order,
             &mut store[..usable(terms.slots)],
             &mut run[..usable(terms.bytes)],
-        )?;
-        Ok(found(answer, run))
+        );
+        found(outcome, run)
     }
 
-    /// The answer to a listed call, by the guard's own calls, or its refusal.
-    fn attempt(&mut self, call: &Call) -> Result<Answer, Refusal>
-        ensures answer { (guard_of self.new, as_told result) ≡ step (guard_of self.old) (call_of call.now) }
-        ensures clear { IfOk result Clear }
+    /// Puts the answer to a listed call, by the guard's own calls, in its place: handed back, it would be moved once more,
+    /// with room for its run.
+    fn apply(&mut self, call: &Call, place: &mut Answer)
+        ensures answer { (guard_of self.new, answer_of place.new) ≡ step (guard_of self.old) (call_of call.now) }
+        ensures clear { Clear place.new }
     {
-        match call {
-            Call::State { side } => return Ok(Answer::Number(self.state(*side)?)),
-            Call::Start { side, state } => self.start(*side, *state)?,
-            Call::End { side, state } => self.end(*side, *state)?,
+        *place = match call {
+            Call::State { side } => self
+                .state(*side)
+                .map_or_else(Answer::Refused, Answer::Number),
+            Call::Start { side, state } => done(self.start(*side, *state)),
+            Call::End { side, state } => done(self.end(*side, *state)),
             Call::Arrow {
                 side,
                 from,
                 command,
                 to,
-            } => self.arrow(*side, *from, *command, *to)?,
+            } => done(self.arrow(*side, *from, *command, *to)),
             Call::Lift {
                 side,
                 from,
                 command,
                 to,
-            } => self.lift(*side, *from, *command, *to)?,
-            Call::Compare { terms } => return self.compare_listed(terms),
-            Call::Open { commands, terms } => return self.open_listed(*commands, terms),
-            Call::Release => {
-                self.release()?;
-                return Ok(Answer::Granted);
-            }
-        }
-        Ok(Answer::Done)
-    }
-
-    /// The answer to a listed call, by the guard's own calls.
-    fn apply(&mut self, call: &Call) -> Answer
-        ensures answer { (guard_of self.new, answer_of result) ≡ step (guard_of self.old) (call_of call.now) }
-        ensures clear { Clear result }
-    {
-        self.attempt(call).unwrap_or_else(Answer::Refused)
+            } => done(self.lift(*side, *from, *command, *to)),
+            Call::Compare { terms } => self.compare_listed(terms),
+            Call::Open { commands, terms } => self.open_listed(*commands, terms),
+            Call::Release => self
+                .release()
+                .map_or_else(Answer::Refused, |()| Answer::Granted),
+        };
     }
 }
 
@@ -131,7 +134,7 @@ pub fn replay(calls: &[Call], answers: &mut [Answer]) -> usize
     let count = calls.len().min(answers.len());
     // Stays: no plainer: `iter_mut().enumerate()` leaves `calls[place]` instead, and after `zip` a proof knows nothing.
     for (place, call) in calls[..count].iter().enumerate() {
-        answers[place] = guard.apply(call);
+        guard.apply(call, &mut answers[place]);
     }
     count
 }

@@ -16,7 +16,7 @@ use order::interface::Order;
 use plan::refusal::Refusal;
 use search::pair::Pair;
 use walk::slot::Slot;
-use walk::verdict::Numbers;
+use walk::verdict::{Numbers, Verdict};
 
 impl Guard {
     /// Compares the programme with the rule, and sets the standing to the verdict.
@@ -35,7 +35,8 @@ impl Guard {
         ensures promised { Promised (guard_of self.old) (calls.Search calls.Compare (O.Order.below order.now) (length slots.old) (length run.old)) (as_found result run.new) (guard_of self.new) }
     {
         let answer = search::compare::compare(&self.programme, &self.rule, order, slots, run)?;
-        self.standing = self.follow(Event::Compare(answer.0.into()))?;
+        let verdict = Verdict::from(answer.0);
+        self.standing = self.follow(Event::Compare(verdict))?;
         Ok(answer)
     }
 

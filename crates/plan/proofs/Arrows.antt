@@ -1,9 +1,11 @@
--- The arrows of a file as records of seven bytes each.
-use Rattle.std.proofs.Common.{◌≡◌, ℕ, zero, suc, ◌+◌, ◌-◌, ◌*◌, ◌/◌, ◌<◌, ◌≤◌, List, [], ◌∷◌, ◌++◌, length, get_or, take, drop, sym, refl, ap, ◌∙◌, ap₂, arith, length-drop, get_or-take, get_or-drop, drop-drop}
+-- Bytes as records of one length, and the arrows of a file as records of seven bytes each.
+use Rattle.std.proofs.Common.{◌≡◌, ℕ, zero, suc, ◌+◌, ◌-◌, ◌*◌, ◌/◌, ◌<◌, ◌≤◌, List, [], ◌∷◌, ◌++◌, length, get_or, take, drop, sym, refl, ap, ◌∙◌, ap₂, subst, ⊎_elim, arith, length-drop, get_or-take, get_or-drop, drop-drop}
+use Rattle.std.proofs.Math.Nat.{mul-suc}
 use Rattle.std.proofs.Math.Seq.{take-add}
-use Rattle.std.specs.List.{flat_map}
+use Rattle.std.specs.List.{AllWithin, flat_map}
 use Rattle.std.specs.List.Sorted.{IsNonDecreasingBy, IsPartitionPoint}
 use Rattle.std.specs.Simd.{first_chunks}
+use Rattle.std.proofs.lemmas.Bool.{cases_lt}
 use Rattle.std.proofs.lemmas.List.Sorted.{IsNonDecreasingBy-from_default}
 use Rattle.automata.specs.Files.{file}
 use Rattle.automata.specs.Lookup.{front, arrow_count, key, first_arrow, arrows_between, viewed}
@@ -11,18 +13,19 @@ use Rattle.automata.proofs.Halves.{Boundary}
 use Rattle.automata.proofs.Views.{keys_in_order, boundary_found}
 use Rattle.plan.specs.Arrows.{arrow_key}
 
--- bytes as records of seven
-chunk_at : (n : ℕ) (g : List ℕ) (i : ℕ) → i < n → get_or (first_chunks 7 n g) i [] ≡ take 7 (drop (7 * i) g)
-chunk_at zero g i h = absurd (omega arith)
-chunk_at (suc n) g zero h = refl
-chunk_at (suc n) g (suc i) h =
-    let e : 7 + 7 * i ≡ 7 * suc i = omega arith in
-    chunk_at n (drop 7 g) i (omega arith) ∙ ap (take 7) (drop-drop (7 * i) 7 g ∙ ap (λ (k : ℕ). drop k g) e)
+-- bytes as records of k
+pub chunk_at : (k n : ℕ) (g : List ℕ) (i : ℕ) → i < n → get_or (first_chunks k n g) i [] ≡ take k (drop (k * i) g)
+chunk_at k zero g i h = absurd (omega arith)
+chunk_at k (suc n) g zero h = let e : 0 ≡ k * 0 = omega arith in ap (λ (m : ℕ). take k (drop m g)) e
+chunk_at k (suc n) g (suc i) h =
+    let e : k + k * i ≡ k * suc i = omega (arith, mul-suc k i) in
+    chunk_at k n (drop k g) i (omega arith) ∙ ap (take k) (drop-drop (k * i) k g ∙ ap (λ (m : ℕ). drop m g) e)
 
-length_chunks : (n : ℕ) (g : List ℕ) → length (first_chunks 7 n g) ≡ n
-length_chunks zero g = refl
-length_chunks (suc n) g = ap (λ (k : ℕ). suc k) (length_chunks n (drop 7 g))
+pub length_chunks : (k n : ℕ) (g : List ℕ) → length (first_chunks k n g) ≡ n
+length_chunks k zero g = refl
+length_chunks k (suc n) g = ap (λ (m : ℕ). suc m) (length_chunks k n (drop k g))
 
+-- and of seven
 drop_chunks : (lo n : ℕ) (g : List ℕ) → drop lo (first_chunks 7 n g) ≡ first_chunks 7 (n - lo) (drop (7 * lo) g)
 drop_chunks zero n g = let e : n ≡ n - 0 = omega arith in ap (λ (k : ℕ). first_chunks 7 k g) e
 drop_chunks (suc lo) zero g = let e : 0 ≡ 0 - suc lo = omega arith in ap (λ (k : ℕ). first_chunks 7 k (drop (7 * suc lo) g)) e
@@ -52,13 +55,13 @@ module _ (f : List ℕ) (arrows : List (List ℕ)) (e : arrows ≡ first_chunks 
   are = e ∙ ap (λ (n : ℕ). first_chunks 7 n (drop (front f) f)) many
 
   length_is : length arrows ≡ arrow_count f
-  length_is = ap length are ∙ length_chunks (arrow_count f) (drop (front f) f)
+  length_is = ap length are ∙ length_chunks 7 (arrow_count f) (drop (front f) f)
 
   byte_of : (i b : ℕ) → i < arrow_count f → b < 7 → get_or (get_or arrows i []) b 0 ≡ get_or f (front f + 7 * i + b) 0
   byte_of i b h l =
       let k : front f + (7 * i + b) ≡ front f + 7 * i + b = omega arith in
       ap (λ (xs : List (List ℕ)). get_or (get_or xs i []) b 0) are
-      ∙ ap (λ (x : List ℕ). get_or x b 0) (chunk_at (arrow_count f) (drop (front f) f) i h)
+      ∙ ap (λ (x : List ℕ). get_or x b 0) (chunk_at 7 (arrow_count f) (drop (front f) f) i h)
       ∙ get_or-take 7 (drop (7 * i) (drop (front f) f)) b 0 l
       ∙ get_or-drop (7 * i) (drop (front f) f) b 0
       ∙ get_or-drop (front f) f (7 * i + b) 0
@@ -92,8 +95,26 @@ module _ (f : List ℕ) (arrows : List (List ℕ)) (e : arrows ≡ first_chunks 
     pub first_found : (k r : ℕ) → IsPartitionPoint (λ g. arrow_key g < k) (λ g. k ≤ arrow_key g) arrows r → r ≤ length arrows → r ≡ first_arrow f k 0
     first_found k r p h = boundary_found f w k 0 r (omega arith) (λ i l. absurd (omega arith)) (omega (arith, length_is)) (boundary k r p h)
 
-    pub last_found : (k r s : ℕ) → IsPartitionPoint (λ g. arrow_key g < k) (λ g. k ≤ arrow_key g) arrows r → r ≤ length arrows →
-        IsPartitionPoint (λ g. arrow_key g < k + 1) (λ g. k + 1 ≤ arrow_key g) arrows s → s ≤ length arrows → s ≡ first_arrow f (k + 1) r
-    last_found k r s p h q l =
+    pub last_found : (k r t : ℕ) (rest : List (List ℕ)) → rest ≡ drop r arrows → IsPartitionPoint (λ g. arrow_key g < k) (λ g. k ≤ arrow_key g) arrows r → r ≤ length arrows →
+        IsPartitionPoint (λ g. arrow_key g < k + 1) (λ g. k + 1 ≤ arrow_key g) rest t → t ≤ length rest → r + t ≡ first_arrow f (k + 1) r
+    last_found k r t rest z p h q l =
         let a = boundary k r p h in
-        boundary_found f w (k + 1) r s (omega (arith, length_is)) (λ i t. omega (arith, a.below i t)) (omega (arith, length_is)) (boundary (k + 1) s q l)
+        let at : (i : ℕ) → r ≤ i → i < arrow_count f → arrow_key (get_or rest (i - r) []) ≡ key f i =
+        λ i m n.
+        let j : r + (i - r) ≡ i = omega (arith, m) in
+        ap arrow_key (ap (λ (xs : List (List ℕ)). get_or xs (i - r) []) z ∙ get_or-drop r arrows (i - r) [] ∙ ap (λ (x : ℕ). get_or arrows x []) j) ∙ key_of i n in
+        let long : length rest ≡ arrow_count f - r = ap length z ∙ length-drop r arrows ∙ ap (λ (n : ℕ). n - r) length_is in
+        boundary_found f w (k + 1) r (r + t) (omega (arith, length_is)) (λ i m. omega (arith, a.below i m)) (omega (arith, h, l, long, length_is))
+        (record {
+          below = λ i m. ⊎_elim (λ n. omega (arith, a.below i n))
+              (λ n. omega (arith, at i n (omega (arith, h, l, long, m, length_is)), q.0 (i - r) [] (omega arith) (omega (arith, m, n)))) (cases_lt i r);
+          above = λ i m n. omega (arith, at i (omega (arith, m)) n, q.1 (i - r) [] (omega (arith, m)) (omega (arith, long, m, n)));
+        })
+
+    -- behind the arrows with lower keys none is below the key
+    pub none_below : (k r : ℕ) (rest : List (List ℕ)) → rest ≡ drop r arrows → IsPartitionPoint (λ g. arrow_key g < k) (λ g. k ≤ arrow_key g) arrows r → r ≤ length arrows →
+        AllWithin (λ g. k ≤ arrow_key g) rest 0 (length rest)
+    none_below k r rest z p h = λ i d l m.
+        let long : length rest ≡ length arrows - r = ap length z ∙ length-drop r arrows in
+        subst (λ (g : List ℕ). k ≤ arrow_key g) (sym (ap (λ (xs : List (List ℕ)). get_or xs i d) z ∙ get_or-drop r arrows i d))
+        (p.1 (r + i) d (omega arith) (omega (arith, m, long)))

@@ -3,3 +3,4 @@ pub mod Reading
 pub mod Puts
 pub mod Writing
 pub mod Arrows
+pub mod Firsts

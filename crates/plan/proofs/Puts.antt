@@ -10,10 +10,10 @@ use borrow.Rule.Slice.PartMut.{put_mid}
 use Rattle.plan.specs.Buffers.{Put, Puts}
 use Rattle.plan.specs.declared.writer.Writer.{Writer}
 
-put_none : (b : List ℕ) (at : ℕ) → Put b b at [] at
+pub put_none : (b : List ℕ) (at : ℕ) → Put b b at [] at
 put_none b at = record { ends = omega arith; holds = λ _. sym (take-append-drop at b) }
 
-put_more : (b b' b'' : List ℕ) (at r r' : ℕ) (w w' : List ℕ) → length b' ≡ length b → Put b b' at w r → Put b' b'' r w' r' → Put b b'' at (w ++ w') r'
+pub put_more : (b b' b'' : List ℕ) (at r r' : ℕ) (w w' : List ℕ) → length b' ≡ length b → Put b b' at w r → Put b' b'' r w' r' → Put b b'' at (w ++ w') r'
 put_more b b' b'' at r r' w w' el p q = record {
   ends = omega (arith, p.ends, q.ends, length-append w w');
   holds = λ h.
@@ -52,15 +52,15 @@ puts_more v u w g h p q = record {
   put = put_more v.buffer.now u.buffer.now w.buffer.now v.end u.end w.end g h p.long p.put q.put;
 }
 
-joined_one : (g : List ℕ) → joined (g ∷ []) ≡ g
+pub joined_one : (g : List ℕ) → joined (g ∷ []) ≡ g
 unfolding joined
 joined_one g = append-nil g
 
-joined_nil : joined [] ≡ []
+pub joined_nil : joined [] ≡ []
 unfolding joined
 joined_nil = refl
 
-joined_none : (f : ℕ → List (List ℕ)) → joined (each 0 f) ≡ []
+pub joined_none : (f : ℕ → List (List ℕ)) → joined (each 0 f) ≡ []
 unfolding joined each
 joined_none f = refl
 

@@ -1,4 +1,4 @@
-ghost use Rattle.std.specs.Prelude.{◌≡◌, [], ◌∷◌, ◌++◌, take, MatchResult};
+ghost use Rattle.std.specs.Prelude.{◌≡◌, ◌<◌, [], ◌∷◌, ◌++◌, take, MatchResult};
 ghost use Rattle.automata.specs.Sets.{pack};
 ghost use Rattle.automata.specs.Files.{file};
 ghost use Rattle.automata.specs.Reading.{cut, stated_count};
@@ -49,6 +49,17 @@ impl<'a> FilePlan<'a> {
         let (front, _) = lookup::split_front(self.bytes);
         lookup::collect(front, prefix, lookup::count_of(self.bytes))
     }
+
+    /// The states to which arrows lead from a state that exists under a command that does. It stands apart from `targets`,
+    /// which is then small enough to be laid into its callers: many ask about states that do not exist.
+    #[inline(never)]
+    fn led(&self, state: u8, command: u8) -> u32
+        requires { (state < stated_count self.now.bytes.now) × (command < 26) }
+        ensures { result ≡ (viewed self.now.bytes.now).targets state command }
+    {
+        let arrows = lookup::arrows_of(self.bytes, state, command);
+        lookup::collect(arrows, &[5, 0, 4, 0, state, command], self.count())
+    }
 }
 
 impl<'a> Plan for FilePlan<'a> {
@@ -68,8 +79,7 @@ impl<'a> Plan for FilePlan<'a> {
 
     fn targets(&self, state: u8, command: u8) -> u32 {
         if state < self.count() && command < 26 {
-            let arrows = lookup::arrows_of(self.bytes, state, command);
-            lookup::collect(arrows, &[5, 0, 4, 0, state, command], self.count())
+            self.led(state, command)
         } else {
             0
         }

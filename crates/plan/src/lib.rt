@@ -11,4 +11,5 @@ pub mod refusal;
 pub mod runs;
 pub mod table;
 pub mod table_plan;
+mod values;
 pub mod writer;

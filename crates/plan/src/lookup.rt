@@ -1,4 +1,5 @@
 ghost use Rattle.std.specs.Prelude.{◌≡◌, ℕ, ◌+◌, ◌-◌, ◌*◌, ◌^◌, ◌<◌, ◌≤◌, ◌||◌, List, [], ◌∷◌, ◌++◌, length, take, drop, slice_index};
+ghost use Rattle.std.specs.List.{AllWithin};
 ghost use Rattle.std.specs.List.Sorted.{IsNonDecreasingBy, IsPartitionPoint};
 ghost use Rattle.automata.specs.Sets.{has, pack};
 ghost use Rattle.automata.specs.Files.{file};
@@ -53,8 +54,12 @@ pub(crate) fn collect(bytes: &[u8], prefix: &[u8], count: u8) -> u32
 fn front_len(bytes: &[u8]) -> usize
     ensures { (result ≡ front_of bytes.now) × (result ≤ length bytes.now) }
 {
-    let records = bytes.chunks_exact(5).take(65);
-    5 * records.take_while(|record| byte_at(record, 0) == 3).count()
+    let (records, _) = bytes.as_chunks::<5>();
+    let most = records.len().min(65);
+    5 * records[..most]
+        .iter()
+        .position(|record| record[0] != 3)
+        .unwrap_or(most)
 }
 
 /// The head and the records of starts and ends, and the bytes behind them, where the arrows are.
@@ -81,6 +86,18 @@ fn below(arrows: &[[u8; 7]], least: usize) -> usize
     arrows.partition_point(|arrow| key(arrow) < least)
 }
 
+/// How many of the arrows, whose keys ascend from `least` on, have just that key. They are few, so they are counted.
+fn alike(arrows: &[[u8; 7]], least: usize) -> usize
+    requires { IsNonDecreasingBy arrow_key arrows.now × AllWithin (λ g. least ≤ arrow_key g) arrows.now 0 (length arrows.now) }
+    ensures boundary { IsPartitionPoint (λ g. arrow_key g < least + 1) (λ g. least + 1 ≤ arrow_key g) arrows.now result }
+    ensures within { result ≤ length arrows.now }
+{
+    arrows
+        .iter()
+        .position(|arrow| key(arrow) != least)
+        .unwrap_or(arrows.len())
+}
+
 /// The records of the arrows from `state` under `command` in the file of a plan.
 pub(crate) fn arrows_of(bytes: &[u8], state: u8, command: u8) -> &[u8]
     requires { file (viewed bytes.now) ≡ bytes.now }
@@ -90,6 +107,7 @@ pub(crate) fn arrows_of(bytes: &[u8], state: u8, command: u8) -> &[u8]
     let (arrows, _) = arrows.as_chunks::<7>();
     let least = state as usize * 256 + command as usize;
     let first = below(arrows, least);
-    let last = below(arrows, least + 1);
-    arrows[first..last].as_flattened()
+    let (_, behind) = arrows.split_at(first);
+    let count = alike(behind, least);
+    behind[..count].as_flattened()
 }

@@ -1,7 +1,8 @@
-ghost use Rattle.std.specs.Prelude.{◌≡◌, ◌≤◌, length, Some};
+ghost use Rattle.std.specs.Prelude.{◌≡◌, Some};
 ghost use Rattle.plan.specs.Refusals.{number_of, values_of, reason_of};
+ghost use Rattle.plan.specs.Values.{listed};
 
-use arrayvec::ArrayVec;
+pub use crate::values::Values;
 use std::error::Error;
 use std::fmt;
 
@@ -85,17 +86,6 @@ pub enum Refusal {
     },
 }
 
-/// The values that a refusal brings, at most four.
-pub type Values = ArrayVec<usize, 4>;
-
-/// The values, of which there are at most four.
-fn listed(values: &[usize]) -> Values
-    requires { length values.now ≤ 4 }
-    ensures { result.items ≡ values.now }
-{
-    ArrayVec::try_from(values).unwrap()
-}
-
 impl Refusal {
     /// The number that stands for the case, 1 to 22.
     pub fn number(&self) -> u8
@@ -129,27 +119,27 @@ impl Refusal {
 
     /// The values that the case brings, in the order in which they are reported.
     pub fn values(&self) -> Values
-        ensures { result.items ≡ values_of self.now }
+        ensures { listed result ≡ values_of self.now }
     {
         match *self {
-            Refusal::NotReflexive { p } => listed(&[p as usize]),
-            Refusal::NotTransitive { p, q, r } => listed(&[p as usize, q as usize, r as usize]),
-            Refusal::EndNotKept { p, r } => listed(&[p as usize, r as usize]),
+            Refusal::NotReflexive { p } => Values::of(&[p as usize]),
+            Refusal::NotTransitive { p, q, r } => Values::of(&[p as usize, q as usize, r as usize]),
+            Refusal::EndNotKept { p, r } => Values::of(&[p as usize, r as usize]),
             Refusal::ArrowNotMatched {
                 p,
                 r,
                 command,
                 target,
-            } => listed(&[p as usize, r as usize, command as usize, target as usize]),
-            Refusal::EmptyFile => listed(&[0]),
+            } => Values::of(&[p as usize, r as usize, command as usize, target as usize]),
+            Refusal::EmptyFile => Values::of(&[0]),
             Refusal::Truncated { place }
             | Refusal::UnknownKind { place }
             | Refusal::WrongLength { place }
             | Refusal::MisplacedHead { place }
             | Refusal::OutOfRange { place }
-            | Refusal::NotAscending { place } => listed(&[place]),
-            Refusal::BufferShort { needed } => listed(&[needed]),
-            _ => listed(&[]),
+            | Refusal::NotAscending { place } => Values::of(&[place]),
+            Refusal::BufferShort { needed } => Values::of(&[needed]),
+            _ => Values::of(&[]),
         }
     }
 

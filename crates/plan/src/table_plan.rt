@@ -28,11 +28,17 @@ impl Plan for Table {
     }
 }
 
-/// All sets of targets of a plan, each asked for once: those of state s under command c at place s * 26 + c.
+/// All sets of targets of a plan, each asked for once: those of state s under command c at place s * 26 + c. A state that
+/// does not exist has none, and the plan is not asked.
 fn all_targets<P: Plan>(plan: &P) -> [u32; 832]
     ensures { (k : ℕ) → k < 832 → slice_index result k ≡ (P.Plan.meaning plan.now).targets (k / 26) (k % 26) }
 {
-    std::array::from_fn(|k| plan.targets((k / 26) as u8, (k % 26) as u8))
+    let places = 26 * plan.count() as usize;
+    let mut arrows = [0; 832];
+    for (k, set) in arrows[..places].iter_mut().enumerate() {
+        *set = plan.targets((k / 26) as u8, (k % 26) as u8);
+    }
+    arrows
 }
 
 impl Table {

@@ -4,15 +4,29 @@ ghost use Rattle.script.specs.Words.{words};
 ghost use Rattle.script.specs.Numbers.{decimal, below};
 ghost use Rattle.script.specs.Pairs.{pair_of, all_pairs, listed};
 
-use crate::numbers::byte;
 use crate::words::Words;
 
+// Stays: its own digits in place of `byte` and a filter. An order lists thousands of pairs, and `byte` watches each digit
+// for a number past 2^64.
 /// The state of a comparison that the word writes: a number below 64.
 fn state(word: &[u8]) -> Option<u8>
     ensures value { result ≡ below 64 (decimal word.now) }
     ensures small { IfSome result (λ n. n < 64) }
 {
-    byte(word).filter(|n| *n < 64)
+    if word.is_empty() {
+        return None;
+    }
+    let mut n: u16 = 0;
+    for b in word {
+        if !b.is_ascii_digit() {
+            return None;
+        }
+        n = 10 * n + u16::from(*b - b'0');
+        if n >= 64 {
+            return None;
+        }
+    }
+    Some(n as u8)
 }
 
 /// The pair of numbers below 64 that the word is, written `P<R`.
@@ -21,7 +35,9 @@ fn pair(word: &[u8]) -> Option<(u8, u8)>
     ensures small { IfSome result (λ x. (x.0 < 64) × (x.1 < 64)) }
 {
     let sign = word.iter().position(|b| *b == b'<')?;
-    state(&word[..sign]).zip(state(&word[sign + 1..]))
+    let p = state(&word[..sign])?;
+    let r = state(&word[sign + 1..])?;
+    Some((p, r))
 }
 
 /// Whether each word of the text is a pair.

@@ -45,19 +45,19 @@ refused K y Asked R enough x before before-run e = record {
 }
 
 module _ {I : Type 0} (K : Kind I) (a : ℕ × ℕ × ℕ) (before later : List (Slot I)) (before-run run : List ℕ) (h : Leaves (walk K (usable before)) a before later before-run run) where
-  same_answer : SameAnswer K a before later before-run run
+  pub same_answer : SameAnswer K a before later before-run run
   same_answer f m l = leaves_more before later K (usable before) a before-run run h f m l
 
   verdict_is : a.0 ≡ verdict (walk K (usable before))
   verdict_is = ap (λ (t : ℕ × ℕ × ℕ). t.0) h.answers
 
   module _ (Asked : List ℕ → Type 0) (R : Nfa) (enough : ℕ) (S : Searches K Asked R enough (usable before)) where
-    found : Finds Asked R a.0 (take a.1 run)
+    pub found : Finds Asked R a.0 (take a.1 run)
     found =
         subst (λ (v : ℕ). Finds Asked R v (take a.1 run)) (sym verdict_is)
         (subst (Finds Asked R (verdict (walk K (usable before)))) (sym (run_is before later K (usable before) a before-run run h)) S.finds)
 
-    never : enough ≤ usable before → a.0 ≡ full_number → ⊥
+    pub never : enough ≤ usable before → a.0 ≡ full_number → ⊥
     never l e = S.never_full l (sym verdict_is ∙ e)
 
 -- what the walk answers and leaves is what the search does, where there is no refusal and the buffer is long enough

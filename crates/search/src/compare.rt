@@ -34,5 +34,6 @@ pub fn compare<'a, P: Plan, R: Plan, O: Order>(
         rule,
         rows: rows_of(order),
     };
-    walk(&search, slots, run).ok_or(Refusal::RunBufferShort)
+    let answer = walk(&search, slots, run).ok_or(Refusal::RunBufferShort)?;
+    Ok(answer)
 }

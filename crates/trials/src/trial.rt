@@ -22,22 +22,38 @@ fn usable(slots: usize) -> usize
     slots.min(4096)
 }
 
-/// The number of a refusal that is due, and none for a refusal that never is.
-fn number_due(due: Refusal) -> Option<u8> {
+/// The number of a refusal that is due, its values with zeros behind them, and how many they are; none for a refusal that
+/// never is.
+fn report_due(due: Refusal) -> Option<(u8, [usize; 4], usize)> {
     match due {
-        Refusal::RunBufferShort => Some(5),
-        Refusal::NotReflexive { .. } => Some(6),
-        Refusal::NotTransitive { .. } => Some(7),
-        Refusal::EndNotKept { .. } => Some(8),
-        Refusal::ArrowNotMatched { .. } => Some(9),
-        Refusal::CommandCount => Some(10),
+        Refusal::RunBufferShort => Some((5, [0; 4], 0)),
+        Refusal::NotReflexive { p } => Some((6, [p as usize, 0, 0, 0], 1)),
+        Refusal::NotTransitive { p, q, r } => {
+            Some((7, [p as usize, q as usize, r as usize, 0], 3))
+        }
+        Refusal::EndNotKept { p, r } => Some((8, [p as usize, r as usize, 0, 0], 2)),
+        Refusal::ArrowNotMatched {
+            p,
+            r,
+            command,
+            target,
+        } => Some((
+            9,
+            [p as usize, r as usize, command as usize, target as usize],
+            4,
+        )),
+        Refusal::CommandCount => Some((10, [0; 4], 0)),
         _ => None,
     }
 }
 
-/// Whether it is the refusal that is due, by its values and by its number.
+/// Whether it is the refusal that is due, and tells the number and the values that are due.
 fn is_due(refusal: Refusal, due: Refusal) -> bool {
-    refusal == due && number_due(due) == Some(refusal.number())
+    report_due(due).is_some_and(|(number, values, count)| {
+        refusal == due
+            && refusal.number() == number
+            && refusal.values().as_slice() == &values[..count.min(4)]
+    })
 }
 
 /// An answer with its run.

@@ -12,7 +12,7 @@ use Rattle.walk.specs.Walks.{Step, going, ended, after, offer, offers, children}
 use Rattle.walk.specs.Progress.{filled, Fills, Reaches}
 use Rattle.walk.proofs.Standing.{offers_append, offers_cons, offers_nil}
 
-drop_further : {A : Type 0} (a b : List A) (m k : ℕ) → m ≤ k → drop m a ≡ drop m b → drop k a ≡ drop k b
+pub drop_further : {A : Type 0} (a b : List A) (m k : ℕ) → m ≤ k → drop m a ≡ drop m b → drop k a ≡ drop k b
 drop_further a b m k l e = let q : k ≡ m + (k - m) = omega arith in rw (q) (sym (drop-drop (k - m) m a) ∙ ap (drop (k - m)) e ∙ drop-drop (k - m) m b)
 
 module _ {I : Type 0} where

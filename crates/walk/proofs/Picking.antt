@@ -17,7 +17,7 @@ module _ {I : Type 0} where
   waiting x = waits x.mark
 
   -- none of the first k waits
-  abbrev Idle : List (Slot I) → ℕ → Type 0
+  abbrev pub Idle : List (Slot I) → ℕ → Type 0
   Idle s k = (i : ℕ) (d : Slot I) → i < k → waiting (get_or s i d) ≡ false
 
   pick_at : (s : List (Slot I)) (k : ℕ) (d : Slot I) → k < length s → Idle s k → waiting (get_or s k d) ≡ true → pick s ≡ taking k (get_or s k d) (set s k (remark Taken (get_or s k d)))

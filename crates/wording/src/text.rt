@@ -22,11 +22,19 @@ pub(crate) fn push_text(out: &mut Vec<u8>, text: &[u8]) -> Result<(), AllocError
     out.extend_from_slice(text)
 }
 
-/// Appends the number in decimal digits.
+/// Appends the number in decimal digits. Nearly all numbers have one or two, which go out as they are; the others are
+/// formatted first.
 pub(crate) fn push_number(out: &mut Vec<u8>, n: usize) -> Result<(), AllocError>
     ensures { Appends result out.old.items out.new.items (numeral n) }
 {
-    push_text(out, Buffer::new().format(n).as_bytes())
+    match n {
+        0..=9 => push_byte(out, b'0' + n as u8),
+        10..=99 => {
+            push_byte(out, b'0' + (n / 10) as u8)?;
+            push_byte(out, b'0' + (n % 10) as u8)
+        },
+        _ => push_text(out, Buffer::new().format(n).as_bytes()),
+    }
 }
 
 /// Appends the name and the number.

@@ -9,7 +9,7 @@ pub loop-place-preserved : goal.loop-place-preserved
 loop-place-preserved c =
     let l = length-take c.min-count.result c.args.calls.now in
     let i : c.loop-place.place < c.min-count.result = omega (arith, l) in
-    at_next (guard_of c.loop-place.guard) (guard_of c.apply.new.self) c.args.calls.now c.args.answers.now c.loop-place.answers c.loop-place.place (State 0) c.apply.result
+    at_next (guard_of c.loop-place.guard) (guard_of c.apply.new.self) c.args.calls.now c.args.answers.now c.loop-place.answers c.loop-place.place (State 0) c.apply.new.place
     (omega (arith, i)) (omega (arith, i)) c.loop-place.invariant (rw get_or-take at c.apply.ensures.answer) c.apply.ensures.clear
 
 pub returns-clause-promise : goal.returns-clause-promise

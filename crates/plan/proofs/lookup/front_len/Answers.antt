@@ -1,63 +1,57 @@
-use Rattle.std.proofs.Common.{◌≡◌, ℕ, zero, suc, ◌+◌, ◌*◌, ◌/◌, ◌<◌, ◌≤◌, true, false, Option, Some, None, ◌⊎◌, List, eqb, length, get_or, sym, ap, subst, subst₂, inl, inr, ⊎_elim, ◌∙◌, arith, rules}
-use Rattle.std.proofs.iter.runs.Made.{chains}
-use Rattle.std.proofs.lemmas.Bool.{eqb-true, eqb-false, false≢true}
-use Rattle.std.specs.Option.{IfSome, MatchOption, option_map}
+use Rattle.std.proofs.Common.{◌≡◌, ℕ, ◌+◌, ◌*◌, ◌/◌, ◌<◌, ◌≤◌, min, Bool, true, false, not, List, [], eqb, length, get_or, take, drop, sym, ap, ◌∙◌, arith, rules, tests, get_or-drop}
+use Rattle.std.specs.List.{position, position_or_len}
+use Rattle.std.specs.Option.{unwrap_or}
+use Rattle.std.specs.Simd.{first_chunks}
+use Rattle.std.proofs.lemmas.Grind.{common_steps}
+use Rattle.std.proofs.lemmas.List.{get_or-take, length-take-le}
+use Rattle.std.proofs.lemmas.List.Sums.{fails_before_first, passes_at_first}
+use Rattle.std.proofs.lemmas.Iterator.{YieldsList-from_slice}
+use Rattle.std.proofs.lemmas.Iterator.Search.{position_from_yields_List}
+use Rattle.automata.specs.Lookup.{front}
 use Rattle.automata.proofs.Fronts.{front_is}
+use Rattle.plan.proofs.Arrows.{chunk_at, length_chunks}
+use Rattle.plan.proofs.Firsts.{first_within, first_or}
 use Rattle.plan.proofs.lookup.front_len.Goals as goal
 
--- the item at a place, of which two facts hold
-both : {A : Type 0} (o r : Option A) (y : A) (P Q : A → Type 0) → r ≡ o → option_map (λ (z : A). z) o ≡ Some y → IfSome o P → IfSome r Q → (x : A) × P x × Q x
-both None r y P Q h e p q = absurd (false≢true (ap (λ o. elim o [ None ↦ false | Some z ↦ true ]) e))
-both (Some x) r y P Q h e p q = (x, p, subst (λ o. IfSome o Q) h q)
+-- whether a record stands behind the front
+abbrev behind : List ℕ → Bool
+behind r = not (eqb (get_or r 0 0) 3)
 
--- there is none, or one of which two facts hold
-either : {A : Type 0} (o r : Option A) (N : Type 0) (P Q : A → Type 0) → r ≡ o → MatchOption o N P → IfSome r Q → N ⊎ ((x : A) × P x × Q x)
-either None r N P Q h p q = inl p
-either (Some x) r N P Q h p q = inr (x, p, subst (λ o. IfSome o Q) h q)
+is_behind : (b : ℕ) → not (eqb b 3) ≡ true → b ≡ 3 → ⊥
+is_behind b h e = grind (arith, common_steps)
 
--- a chunk of five bytes
-spot : (f r : List ℕ) (s i : ℕ) (x : List ℕ) → r ≡ f → s ≡ 5 → i * s + s ≤ length r → ((j d : ℕ) → j < s → get_or x j d ≡ get_or r (i * s + j) d) →
-    (5 * i + 5 ≤ length f) × (get_or f (5 * i) 0 ≡ get_or x 0 0)
-spot f r s i x e z h w =
-    let q = subst₂ (λ (r : List ℕ) (s : ℕ). (i * s + s ≤ length r) × ((j d : ℕ) → j < s → get_or x j d ≡ get_or r (i * s + j) d)) e z (h, w) in
-    let k : 5 * i ≡ i * 5 + 0 = omega arith in
-    (omega (arith, q.0), ap (λ (k : ℕ). get_or f k 0) k ∙ sym (q.1 0 0 (omega arith)))
+is_front : (b : ℕ) → not (eqb b 3) ≡ false → b ≡ 3
+is_front b h = grind (arith, common_steps)
 
--- records in a row lie inside the bytes
-within : (f : List ℕ) (n : ℕ) → n ≤ 65 → ((i : ℕ) → i < n → (5 * i + 5 ≤ length f) × (get_or f (5 * i) 0 ≡ 3)) → 5 * n ≤ length f
-within f zero h s = omega arith
-within f (suc n) h s = omega (arith, (s n (omega arith)).0)
+module _ (f : List ℕ) (xs : List (List ℕ)) (most : ℕ) (e : xs ≡ take most (first_chunks 5 (length f / 5) f)) (m : most ≡ min (length f / 5) 65) where
+  many : length xs ≡ most
+  many = ap length e ∙ length-take-le most (first_chunks 5 (length f / 5) f) (omega (arith, m, length_chunks 5 (length f / 5) f))
+
+  byte_at : (i : ℕ) → i < most → (5 * i + 5 ≤ length f) × (get_or f (5 * i) 0 ≡ get_or (get_or xs i []) 0 0)
+  byte_at i l =
+      let c : get_or xs i [] ≡ take 5 (drop (5 * i) f) = ap (λ (ys : List (List ℕ)). get_or ys i []) e ∙ get_or-take most _ i [] l ∙ chunk_at 5 (length f / 5) f i (omega (arith, m, l)) in
+      let k : 5 * i + 0 ≡ 5 * i = omega arith in
+      (omega (arith, m, l), sym (ap (λ (r : List ℕ). get_or r 0 0) c ∙ get_or-take 5 (drop (5 * i) f) 0 0 (omega arith) ∙ get_or-drop (5 * i) f 0 0 ∙ ap (λ (j : ℕ). get_or f j 0) k))
+
+  found : (n : ℕ) → n ≡ position_or_len behind xs → n ≤ most → (5 * n ≡ front f) × (5 * n ≤ length f)
+  found n p l = (
+    sym (front_is f n (omega (arith, m, l))
+        (λ i h. let b = byte_at i (omega (arith, h, l)) in (b.0, b.1 ∙ is_front _ (fails_before_first behind xs i [] (omega (arith, h, p)))))
+        (λ h room three.
+        let k : n < most = omega (arith, m, h, room) in
+        is_behind _ (passes_at_first behind xs [] (omega (arith, p, k, many))) (ap (λ (j : ℕ). get_or (get_or xs j []) 0 0) (sym p) ∙ sym (byte_at n k).1 ∙ three))),
+    omega (arith, m, l),
+  )
 
 pub returns : goal.returns
 returns c =
     let f = c.args.bytes.now in
-    let p = c.count.ensures.runs in
-    let n = p.0.len in
-    let t = c.take_while.ensures.runs p.0 p.0.seen p.1 in
-    let u = c.take-records.ensures.runs t.0 t.0.seen t.1 in
-    let v = c.chunks_exact.ensures.runs u.1.0 u.1.0.seen (search (rules, chains)) in
-    let keeps = t.2.2 (λ a r f' e. search rules) in
-    let rest : u.1.0.from.rest.now ≡ f = ap (λ s. s.rest.now) u.1.1 ∙ c.chunks_exact.ensures.rest in
-    let size : u.1.0.from.size ≡ 5 = ap (λ s. s.size) u.1.1 ∙ c.chunks_exact.ensures.size in
-    let few : n ≤ 65 = omega (arith, t.2.0, u.0) in
-    let short : (i : ℕ) → i < n → (5 * i + 5 ≤ length f) × (get_or f (5 * i) 0 ≡ 3) = λ i l.
-    let a = both (p.0.at i) (u.1.0.at i) _ _ _ (u.1.2.0.2 i ∙ t.2.1 i l) (p.0.reads i c.args.bytes l) (keeps.0 i) (v.2 i) in
-    let called = a.1 in
-    let test : eqb (get_or a.0.now 0 0) 3 ≡ true = search rules in
-    let w = spot f _ _ i a.0.now rest size a.2.1 a.2.2.2 in
-    (w.0, w.1 ∙ eqb-true _ 3 test) in
-    let ends : n < 65 → 5 * n + 5 ≤ length f → get_or f (5 * n) 0 ≡ 3 → ⊥ = λ l h e.
-    ⊎_elim
-    (λ m.
-    let whole = v.1 (u.1.2.1 m.0 (omega (arith, m.1))) in
-    let d : u.1.0.len ≡ length f / 5 = subst₂ (λ (r : List ℕ) (s : ℕ). u.1.0.len ≡ length r / s) rest size whole in
-    omega (arith, d, m.1, u.1.2.0.0))
-    (λ a.
-    let called = a.1 in
-    let test : eqb (get_or a.0.now 0 0) 3 ≡ false = search rules in
-    let w = spot f _ _ n a.0.now rest size a.2.1 a.2.2.2 in
-    eqb-false _ 3 test (sym w.1 ∙ e))
-    (either (t.0.at n) (u.1.0.at n) _ _ _ (u.1.2.0.2 n) (keeps.1 p.2) (v.2 n)) in
-    let e : 5 * c.count.result ≡ 5 * n = ap (λ (k : ℕ). 5 * k) p.3 in
-    let is = front_is f n few short ends in
-    (e ∙ sym is, omega (arith, e, within f n few short))
+    let most = c.min-most.result in
+    let xs = take most c.as_chunks.result.0.now in
+    let e : c.position.result ≡ position behind xs = position_from_yields_List behind _ _ c.position.result c.position.ensures.ran (YieldsList-from_slice xs cc) (λ x b q k. search (rules, tests)) in
+    let h : xs ≡ take most (first_chunks 5 (length f / 5) f) = ap (take most) c.as_chunks.ensures.front in
+    let m : most ≡ min (length f / 5) 65 = c.min-most.ensures ∙ ap (λ (n : ℕ). min n 65) (ap length c.as_chunks.ensures.front ∙ length_chunks 5 (length f / 5) f) in
+    let p : c.unwrap_or.result ≡ position_or_len behind xs =
+    c.unwrap_or.ensures ∙ ap (λ o. unwrap_or o most) e ∙ ap (unwrap_or (position behind xs)) (sym (many f xs most h m)) ∙ first_or behind xs in
+    let w = found f xs most h m c.unwrap_or.result p (omega (arith, p, first_within behind xs, many f xs most h m)) in
+    (w.0, w.1)

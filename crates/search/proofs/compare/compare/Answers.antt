@@ -1,4 +1,4 @@
-use Rattle.std.proofs.Common.{ℕ, ◌*◌, ◌^◌, Bool, length, subst}
+use Rattle.std.proofs.Common.{ℕ, ◌*◌, ◌^◌, Bool, length, sym, ◌∙◌, subst}
 use Rattle.std.proofs.lemmas.Result.{err_from_is_err_and}
 use Rattle.walk.specs.Answers.{usable, Walked}
 use Rattle.automata.specs.Nfa.{Nfa}
@@ -22,7 +22,7 @@ returns g c =
     let A : Nfa = g.P.Plan.meaning c.args.programme.now in
     let R : Nfa = g.R.Plan.meaning c.args.rule.now in
     let o : ℕ → ℕ → Bool = g.O.Order.below c.args.order.now in
-    rw c.ok_or.ensures.value
+    rw (sym c.in_ok-answer.was ∙ c.ok_or.ensures.value)
     (answered (pairs A R o) (compare_refusal A R o (length c.args.run.now) (usable c.args.slots.now)) (Permits A) R (A.count * 2 ^ R.count) c.walk.result _ c.args.slots.now c.walk.new.slots c.args.run.now c.walk.new.run
     c.in_ok-admit.ensures.report c.in_ok-admit.ensures.room
     (subst (λ (q : ℕ → ℕ → Bool). Walked (pairs A R q) c.walk.result c.args.slots.now c.walk.new.slots c.args.run.now c.walk.new.run) c.rows_of.ensures c.walk.ensures.leaves)

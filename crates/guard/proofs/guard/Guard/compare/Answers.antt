@@ -7,7 +7,7 @@ use Rattle.guard.proofs.guard.Guard.compare.Goals as goal
 pub returns-clause-answer : goal.returns-clause-answer
 returns-clause-answer g c =
     compare_step (guard_of c.args.self.now) (g.O.Order.below c.args.order.now) c.args.slots.now c.compare.new.slots c.args.run.now c.compare.new.run c.in_ok-answer.answer
-    c.into.result c.in_ok-self.field-0 c.into.ensures c.in_ok-self.ensures c.in_ok-answer.ensures.leaves
+    c.from-verdict.result c.in_ok-self.field-0 c.from-verdict.ensures c.in_ok-self.ensures c.in_ok-answer.ensures.leaves
 
 pub returns-clause-promised : goal.returns-clause-promised
 returns-clause-promised g c = stepped _ _ _ _ (returns-clause-answer g c)
