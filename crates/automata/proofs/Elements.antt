@@ -1,5 +1,7 @@
 -- Sets of numbers below 64 gone through element by element, and taken from one another.
-use Rattle.std.proofs.Common.{◌≡◌, ℕ, zero, suc, ◌-◌, ◌^◌, ◌<◌, Bool, true, false, cond, eqb, ◌↔◌, List, length, get_or, replicate, sym, refl, ap, ◌∙◌, subst, ⊎_elim, arith}
+use Rattle.std.proofs.Common.{◌≡◌, ℕ, zero, suc, ◌+◌, ◌-◌, ◌^◌, ◌<◌, ◌≤◌, Bool, true, false, cond, eqb, ◌↔◌, List, ◌++◌, length, get_or, drop, replicate, sym, refl, ap, ◌∙◌, subst, ⊎_elim, arith, get_or-drop}
+use Rattle.std.proofs.Math.ListN.{get_or-append}
+use Rattle.std.proofs.lemmas.List.{get_or-append_right}
 use lib.Bits.{bit_and, and_le_l}
 use lib.ListN.{get_or-eq_default}
 use Rattle.std.proofs.lemmas.Bool.{cases_eq, cases_lt, cases_Bool, eq-eqb, ne_eqb, both_ways, and_parts, and_from, or_cases, or_left, or_right, cond-true, cond-false, not-true, not_from_false}
@@ -91,3 +93,14 @@ pub zero_at : (n k : ℕ) → ◌≡◌ {A = ℕ} (get_or {A = ℕ} (replicate n
 zero_at zero k = refl
 zero_at (suc n) zero = refl
 zero_at (suc n) (suc k) = zero_at n k
+
+-- the values t below n in front of zeros, where t has no others
+pub filled : (n m : ℕ) (xs : List ℕ) (t : ℕ → ℕ) → length xs ≡ n → ((j : ℕ) → j < n → get_or xs j 0 ≡ t j) → ((j : ℕ) → n ≤ j → t j ≡ 0) →
+    (k : ℕ) → get_or (xs ++ drop n (replicate m 0)) k 0 ≡ t k
+filled n m xs t e h z k =
+    ⊎_elim
+    (λ l. get_or-append xs (drop n (replicate m 0)) 0 k (omega (arith, l, e)) ∙ h k l)
+    (λ l.
+    get_or-append_right xs (drop n (replicate m 0)) n k 0 e l
+    ∙ get_or-drop n (replicate m 0) (k - n) 0 ∙ zero_at m (n + (k - n)) ∙ sym (z k l))
+    (cases_lt k n)

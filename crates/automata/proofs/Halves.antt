@@ -1,4 +1,4 @@
-use Rattle.std.proofs.Common.{◌≡◌, ℕ, zero, suc, ◌+◌, ◌-◌, ◌/◌, ◌<◌, ◌≤◌, cond, ltb, sym, refl, subst, ⊎_elim, arith}
+use Rattle.std.proofs.Common.{◌≡◌, ℕ, zero, suc, ◌+◌, ◌-◌, ◌/◌, ◌<◌, ◌≤◌, cond, ltb, sym, refl, ◌∙◌, subst, ap₂, ⊎_elim, arith}
 use Rattle.std.proofs.lemmas.Bool.{cases_lt, lt-ltb, le-ltb, ltb-true, ltb-false, cond-true, cond-false, cond_both}
 use Rattle.automata.specs.Lookup.{halving}
 
@@ -25,6 +25,21 @@ halving_cases m at k lo hi P h low high =
     subst P (sym (halving_step m at k lo hi h))
     (cond_both (ltb (at (middle lo hi)) k) (halving m at k (middle lo hi + 1) hi) (halving m at k lo (middle lo hi)) P
     (λ e. low (ltb-true (at (middle lo hi)) k e)) (λ e. high (ltb-false (at (middle lo hi)) k e)))
+
+-- more fuel than needed changes nothing
+pub halving_enough : (m n : ℕ) (at : ℕ → ℕ) (k lo hi : ℕ) → hi - lo ≤ m → hi - lo ≤ n → halving m at k lo hi ≡ halving n at k lo hi
+halving_enough zero n at k lo hi h l = halving_done zero at k lo hi (omega arith) ∙ sym (halving_done n at k lo hi (omega arith))
+halving_enough (suc m) zero at k lo hi h l = halving_done (suc m) at k lo hi (omega arith) ∙ sym (halving_done zero at k lo hi (omega arith))
+halving_enough (suc m) (suc n) at k lo hi h l =
+    ⊎_elim
+    (λ lt.
+    halving_step m at k lo hi lt
+    ∙ ap₂ (λ (x y : ℕ). cond (ltb (at (middle lo hi)) k) x y)
+    (halving_enough m n at k (middle lo hi + 1) hi (omega arith) (omega arith))
+    (halving_enough m n at k lo (middle lo hi) (omega arith) (omega arith))
+    ∙ sym (halving_step n at k lo hi lt))
+    (λ ge. halving_done (suc m) at k lo hi ge ∙ sym (halving_done (suc n) at k lo hi ge))
+    (cases_lt lo hi)
 
 -- the answer is one of the indices, or the end
 pub halving_range : (m : ℕ) (at : ℕ → ℕ) (k lo hi : ℕ) → lo ≤ hi → (lo ≤ halving m at k lo hi) × (halving m at k lo hi ≤ hi)

@@ -1,15 +1,17 @@
 -- Collecting the members of a set from the records of a file.
-use Rattle.std.proofs.Common.{◌≡◌, ℕ, suc, ◌-◌, ◌^◌, ◌<◌, Bool, true, false, ◌||◌, eqb, List, [], ◌∷◌, ◌++◌, length, get_or, take, sym, refl, ap, ◌∙◌, subst, ⊎_elim, arith, length-append, take-suc}
+use Rattle.std.proofs.Common.{◌≡◌, ℕ, suc, ◌-◌, ◌^◌, ◌<◌, ◌≤◌, Bool, true, false, ◌||◌, eqb, List, [], ◌∷◌, ◌++◌, length, get_or, take, drop, sym, refl, ap, ◌∙◌, subst, ⊎_elim, arith, length-append, take-suc}
 use lib.Bits.{bit_or, or_lt}
 use lib.Pow.{pow-lt}
 use lib.Seq.{take-length}
-use Rattle.std.proofs.lemmas.List.{same_from_push}
+use Rattle.std.proofs.lemmas.List.{same_from_push, drop_all}
 use Rattle.std.proofs.lemmas.Bool.{cases_eq, cases_Bool, eq-eqb, ne_eqb, cond-true, cond-false}
 use Rattle.automata.specs.Sets.{has, pack, along}
-use Rattle.automata.specs.Lookup.{sameb}
+use Rattle.automata.specs.Reading.{cut}
+use Rattle.automata.specs.Lookup.{sameb, memb}
 use Rattle.automata.proofs.Bits.{has_along}
 use Rattle.automata.proofs.Packs.{pack_cong, pack_same}
 use Rattle.automata.proofs.Lists.{sameb_true, sameb_refl}
+use Rattle.automata.proofs.Cuts.{cut_nil}
 
 same_false : (x y : List ℕ) → (x ≡ y → ⊥) → sameb x y ≡ false
 same_false x y h = ⊎_elim (λ e. absurd (h (sameb_true x y e))) (λ e. e) (cases_Bool (sameb x y))
@@ -37,9 +39,14 @@ mark_bit set j k p w e =
 pub mark_none : (set k : ℕ) (p w : List ℕ) → (p ++ (k ∷ []) ≡ w → ⊥) → has set k ≡ (sameb (p ++ (k ∷ [])) w || has set k)
 mark_none set k p w h = ap (λ (b : Bool). b || has set k) (sym (same_false (p ++ (k ∷ [])) w h))
 
-pub memb_end : (a : Bool) → (a || false) ≡ a
-memb_end true = refl
-memb_end false = refl
+pub or_no : (a : Bool) → (a || false) ≡ a
+or_no true = refl
+or_no false = refl
+
+-- behind the end no record remains
+pub memb_end : (f : List ℕ) (at : ℕ) (g : List ℕ) (a : Bool) → length f ≤ at → (a || memb g (cut (drop at f))) ≡ a
+memb_end f at g a h =
+    ap (λ (x : List (List ℕ)). a || memb g x) (ap cut (drop_all at f h) ∙ cut_nil) ∙ or_no a
 
 pub packed : (n set : ℕ) (p : ℕ → Bool) → set < 2 ^ n → ((k : ℕ) → k < n → p k ≡ has set k) → set ≡ pack n p
 packed n set p h e = sym (pack_same n set h) ∙ pack_cong n (has set) p (λ k l. sym (e k l))

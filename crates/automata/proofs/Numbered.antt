@@ -47,9 +47,12 @@ pub targets_left : (A R : Nfa) (n s c : ℕ) → n ≡ A.targets s c → s < 32 
 unfolding beside
 targets_left A R n s c e h = rw (lt-ltb s 32 h) e
 
-pub targets_right : (A R : Nfa) (n s c : ℕ) → n ≡ R.targets (s - 32) c → n < 2 ^ 32 → 32 ≤ s → (n * 2 ^ 32) % 2 ^ 64 ≡ (beside A R).targets s c
+pub raised_targets : (A R : Nfa) (s c : ℕ) → 32 ≤ s → R.targets (s - 32) c * 2 ^ 32 ≡ (beside A R).targets s c
 unfolding beside
-targets_right A R n s c e l h = rw (le-ltb s 32 h) (up_shifts n l ∙ ap (λ (m : ℕ). m * 2 ^ 32) e)
+raised_targets A R s c h = rw (le-ltb s 32 h) refl
+
+pub targets_right : (A R : Nfa) (n s c : ℕ) → n ≡ R.targets (s - 32) c → n < 2 ^ 32 → 32 ≤ s → (n * 2 ^ 32) % 2 ^ 64 ≡ (beside A R).targets s c
+targets_right A R n s c e l h = up_shifts n l ∙ ap (λ (m : ℕ). m * 2 ^ 32) e ∙ raised_targets A R s c h
 
 -- what has arrows, and where they lead
 pub arrow_left : (A R : Nfa) (p c t : ℕ) → p < 32 → Arrow (beside A R) p c t → Arrow A p c t

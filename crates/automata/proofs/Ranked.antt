@@ -1,6 +1,7 @@
 -- The rows of candidates, narrowed until nothing waits, are the greatest order.
 use Rattle.std.proofs.Common.{◌≡◌, ℕ, ◌+◌, ◌*◌, ◌^◌, ◌<◌, ◌≤◌, min, Bool, true, false, not, ◌&&◌, ◌||◌, ◌↔◌, List, length, get_or, sym, ap, ◌∙◌, subst, ⊎_elim, arith}
-use lib.Bits.{bit_or, or_lt}
+use lib.Bits.{bit_and, bit_or, or_lt}
+use Rattle.std.proofs.Math.Bool.{and-true}
 use Rattle.std.proofs.lemmas.Nat.{or_comm}
 use Rattle.std.proofs.lemmas.Bool.{cases_eq, cases_Bool, both_ways, and_parts, and_from, and_left, or_left, or_right, or_parts}
 use Rattle.automata.specs.Sets.{has}
@@ -11,7 +12,7 @@ use Rattle.automata.specs.Relations.{bits, among}
 use Rattle.automata.specs.Laws.{Simulation}
 use Rattle.automata.specs.Greatest.{Largest}
 use Rattle.automata.specs.Refining.{arc, Sources, Matches, candidate}
-use Rattle.automata.proofs.Bits.{has_or, has_zero}
+use Rattle.automata.proofs.Bits.{has_or, has_and, has_zero}
 use Rattle.automata.proofs.Elements.{Less, less_other}
 use Rattle.automata.proofs.Simulations.{among_from, among_parts}
 
@@ -35,6 +36,15 @@ candidate_from e ends p r ep er h =
 pub candidate_none : (e : ℕ → Bool) (ends p r : ℕ) → e p ≡ false → candidate e ends p r ≡ false
 unfolding candidate
 candidate_none e ends p r h = and_left (e p && e r) (not (has ends p) || has ends r) (and_left (e p) (e r) h)
+
+-- the row of an end, and of a state that is none
+pub candidate_end : (states ends p : ℕ) → has states p ≡ true → has ends p ≡ true → (r : ℕ) → has (bit_and states ends) r ≡ candidate (has states) ends p r
+unfolding candidate
+candidate_end states ends p hs he r = has_and states ends r ∙ simp (hs, he)
+
+pub candidate_plain : (states ends p : ℕ) → has states p ≡ true → has ends p ≡ false → (r : ℕ) → has states r ≡ candidate (has states) ends p r
+unfolding candidate
+candidate_plain states ends p hs he r = simp (hs, he) (sym (and-true (has states r)))
 
 -- the measure: the rows lose bits, or the waiting set does
 pub rank_less : (a b waiting rest d : ℕ) → b + min 1 d ≤ a → rest < waiting → rest < 2 ^ 64 → d < 2 ^ 64 → b * 2 ^ 64 + bit_or rest d < a * 2 ^ 64 + waiting

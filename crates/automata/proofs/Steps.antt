@@ -82,6 +82,11 @@ some_member x l ne = (count_trailing_zeros 32 x, (trailing_has 32 x (positive x 
 pub no_member : (x t : ℕ) → has x t ≡ true → x ≡ 0 → ⊥
 no_member x t h e = both_ways (has 0 t) (has_zero t) (subst (λ (y : ℕ). has y t ≡ true) e h)
 
+-- a plan without states permits no run
+pub stateless_permits_none : (A : Nfa) → Proper A → A.count ≡ 0 → (w : List ℕ) → Permits A w → ⊥
+stateless_permits_none A W e w p =
+    no_member A.starts p.0 p.2 (omega (arith, subst (λ (n : ℕ). A.starts < 2 ^ n) e W.starting))
+
 -- one state more, and the loops that follow sets of states
 pub onward_none : (A : Nfa) (x c : ℕ) → onward_from A x c 0 ≡ 0
 unfolding onward_from

@@ -8,18 +8,23 @@ ghost use Rattle.automata.specs.Refining.{candidate};
 ghost use Rattle.order.specs.Orders.{rowed};
 
 use crate::refining::settle;
-use crate::rows::rows_by;
 use crate::sets::{contains, highest, without};
 use crate::sides::Sides;
 use crate::sources::sources;
 use plan::interface::Plan;
+use std::array;
 
-/// Whether both states exist and the law of ends lets `p` be below `r`.
-#[tactic(auto, unfolding(automata::specs::Refining::candidate))]
-fn is_candidate(states: u64, ends: u64, p: u8, r: u8) -> bool
-    ensures { result ≡ candidate (has states) ends p r }
+/// The existing states that `p` may be below by the law of ends.
+fn candidates_of(states: u64, ends: u64, p: u8) -> u64
+    ensures { (r : ℕ) → has result r ≡ candidate (has states) ends p r }
 {
-    contains(states, p) && contains(states, r) && (!contains(ends, p) || contains(ends, r))
+    if !contains(states, p) {
+        0
+    } else if contains(ends, p) {
+        states & ends
+    } else {
+        states
+    }
 }
 
 /// The pairs that are in some simulation: the candidates, narrowed until every arrow is matched. A number waits
@@ -29,7 +34,7 @@ fn simulation(sides: &Sides) -> [u64; 64]
     ensures { Largest (has sides.now.states) (listed sides.now.ends sides.now.targets) (bits result) }
 {
     let sources = sources(&sides.targets);
-    let mut rows = rows_by(|p, r| is_candidate(sides.states, sides.ends, p, r));
+    let mut rows = array::from_fn(|p| candidates_of(sides.states, sides.ends, p as u8));
     let mut waiting = sides.states;
     while let Some(t) = highest(waiting) {
         let changed = settle(&sources, t, rows[t as usize], &mut rows);

@@ -1,10 +1,9 @@
-ghost use Rattle.std.specs.Prelude.{◌≡◌, ℕ, ◌+◌, ◌*◌, ◌^◌, ◌<◌, ◌≤◌, length, nat_lt, slice_index};
+ghost use Rattle.std.specs.Prelude.{◌≡◌, ℕ, ◌+◌, ◌*◌, ◌/◌, ◌%◌, ◌^◌, ◌<◌, ◌≤◌, length, nat_lt, replicate, slice_index};
 ghost use Rattle.automata.specs.Sets.{has};
 ghost use Rattle.automata.specs.Numbering.{beside};
 ghost use Rattle.order.specs.Sides.{TakesDown};
 
 use plan::interface::Plan;
-use std::array;
 
 /// The two plans of a comparison, taken down once under one numbering.
 #[derive(Drop)]
@@ -41,14 +40,17 @@ fn first(n: u8) -> u64
     (1 << n) - 1
 }
 
-/// The numbers to which arrows lead from number `s` under `command`.
-fn targets_of<P: Plan, R: Plan>(programme: &P, rule: &R, s: u8, command: u8) -> u64
-    ensures { result ≡ (beside (P.Plan.meaning programme.now) (R.Plan.meaning rule.now)).targets s command }
+/// Puts a plan's targets into its half of the table, each number of a target moved up by `shift`: the targets of state s
+/// under command c at place s * 26 + c. A state that does not exist has none, and the plan is not asked.
+fn put_targets<P: Plan>(plan: &P, shift: u32, half: &mut [u64])
+    requires blank { half.old ≡ replicate 832 0 }
+    requires room { shift ≤ 32 }
+    ensures size { length half.new ≡ 832 }
+    ensures cells { (k : ℕ) → k < 832 → slice_index half.new k ≡ (P.Plan.meaning plan.now).targets (k / 26) (k % 26) * 2 ^ shift }
 {
-    if s < 32 {
-        u64::from(programme.targets(s, command))
-    } else {
-        u64::from(rule.targets(s - 32, command)) << 32
+    let places = 26 * plan.count() as usize;
+    for (k, set) in half[..places].iter_mut().enumerate() {
+        *set = u64::from(plan.targets((k / 26) as u8, (k % 26) as u8)) << shift;
     }
 }
 
@@ -57,5 +59,9 @@ fn targets<P: Plan, R: Plan>(programme: &P, rule: &R) -> [u64; 1664]
     ensures size { length result ≡ 1664 }
     ensures cells { (s c : ℕ) → s < 64 → c < 26 → slice_index result (s * 26 + c) ≡ (beside (P.Plan.meaning programme.now) (R.Plan.meaning rule.now)).targets s c }
 {
-    array::from_fn(|place| targets_of(programme, rule, (place / 26) as u8, (place % 26) as u8))
+    let mut table = [0; 1664];
+    let (low, high) = table.split_at_mut(832);
+    put_targets(programme, 0, low);
+    put_targets(rule, 32, high);
+    table
 }

@@ -51,7 +51,7 @@ impl<'a> FilePlan<'a> {
     }
 
     /// The states to which arrows lead from a state that exists under a command that does. It stands apart from `targets`,
-    /// which is then small enough to be laid into its callers: many ask about states that do not exist.
+    /// which is then small enough to be laid into its callers.
     #[inline(never)]
     fn led(&self, state: u8, command: u8) -> u32
         requires { (state < stated_count self.now.bytes.now) × (command < 26) }

@@ -1,7 +1,7 @@
-ghost use Rattle.std.specs.Prelude.{◌≡◌, ◌≤◌, length, take};
+ghost use Rattle.std.specs.Prelude.{◌≡◌, ◌≤◌, [], length, take};
 
 /// The values that a refusal brings, at most four.
-#[derive(Clone, Copy, Debug, PartialEq, Eq)]
+#[derive(Clone, Copy, Debug, PartialEq, Eq, PartialOrd, Ord, Hash)]
 pub struct Values {
     // Stays: an array and a count, since `ArrayVec` is not `Copy`, which callers may rest on.
     room: [usize; 4],
@@ -26,5 +26,17 @@ impl Values {
         ensures { result.now ≡ take self.now.count self.now.room }
     {
         &self.room[..self.count]
+    }
+}
+
+/// No values.
+impl Default for Values {
+    ghost is_default = { λ v. take v.count v.room ≡ [] };
+
+    fn default() -> Self {
+        Values {
+            room: [0; 4],
+            count: 0,
+        }
     }
 }

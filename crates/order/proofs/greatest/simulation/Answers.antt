@@ -1,18 +1,27 @@
-use Rattle.std.proofs.Common.{refl, rules}
+use Rattle.std.proofs.Common.{ℕ, refl, sym, ap, ◌∙◌, ⊎_elim, rules, arith}
+use lib.ListN.{get_or-eq_default}
+use Rattle.std.proofs.lemmas.Bool.{cases_lt}
 use Rattle.automata.specs.Sets.{has}
-use Rattle.automata.specs.Relations.{bits, total, listed}
-use Rattle.automata.specs.Refining.{candidate}
+use Rattle.automata.specs.Relations.{total, listed}
+use Rattle.automata.proofs.Bits.{has_zero}
+use Rattle.automata.proofs.Made.{made_at}
 use Rattle.automata.proofs.Ranked.{rank_start, rank_step, rank_less, rank_end}
-use Rattle.order.proofs.AsOrder.{small_candidate, same_small}
+use Rattle.order.proofs.AsOrder.{small_candidate}
 use Rattle.order.proofs.greatest.simulation.Goals as goal
 
 pub loop-t-init : goal.loop-t-init
 loop-t-init c =
     let s = c.args.sides.now in
-    rank_start (has s.states) (listed s.ends s.targets) c.requires c.sources-sources.result (c.sources-sources.ensures s.ends)
-    c.rows_by-rows.result s.states c.rows_by-rows.ensures.size
-    (same_small (bits c.rows_by-rows.result) (candidate (has s.states) s.ends) c.rows_by-rows.ensures.small (small_candidate (has s.states) c.requires.small s.ends)
-    (λ p r lp lr. let x = c.rows_by-rows.ensures.pairs p r lp lr in search rules))
+    let rows = c.from_fn-rows.result in
+    let long = c.from_fn-rows.ensures.items.long in
+    let made = made_at _ _ (λ x y q k. search rules) rows 0 64 c.from_fn-rows.ensures.items.each in
+    rank_start (has s.states) (listed s.ends s.targets) c.requires c.sources-sources.result (c.sources-sources.ensures s.ends) rows s.states long
+    (λ p r. ⊎_elim
+    (λ l. let x = made p 0 (omega arith) (omega arith) in search rules)
+    (λ l.
+    ap (λ (row : ℕ). has row r) (get_or-eq_default rows 0 (omega (arith, l, long)))
+    ∙ has_zero r ∙ sym ((small_candidate (has s.states) c.requires.small s.ends).left p r l))
+    (cases_lt p 64))
     (λ k. refl)
 
 pub loop-t-smaller : goal.loop-t-smaller
